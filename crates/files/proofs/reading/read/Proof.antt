@@ -1,0 +1,75 @@
+-- `files::read` meets its contract: the file's checks, then the buffer's, then the entries are laid. Assumes nothing.
+use borrow.Author.Needs.{needs}
+use native.Mathlib.Omega.{arith}
+use mathlib.Core.Path.{_≡_, refl, sym, _∙_, ap}
+use native.Mathlib.Nat.{mul-le-mul}
+use Rattle.laws.specs.Lay.{rest-is, lay-is}
+use Rattle.laws.specs.Outcome.{ends-refused, ends-given}
+use Rattle.files.specs.Files.{unpacked}
+use Rattle.files.specs.Checks.{checked-whole, read-refused, read-short, read-gives}
+use Rattle.files.proofs.reading.read.Statement.{statement}
+use Rattle.files.proofs.reading.read.Tie as tie
+
+check-requires : tie.Need-check-requires
+check-requires c κs = search needs
+
+enum-known-why : tie.Need-enum-known-why
+enum-known-why c = search needs
+
+enum-known-rows : tie.Need-enum-known-rows
+enum-known-rows c = search needs
+
+mul-if1 : tie.Need-mul-if1
+mul-if1 c =
+    let w = checked-whole _ _ (rw (c .before .rows .given .1) at (c .before .before .before .check .ensures)) in
+    record { fits = omega (arith, mul-le-mul (w .few-rows) (w .few-columns)) }
+
+returns : tie.Need-returns
+returns c = ends-refused _ _ _ _ _ (read-short _ _ _ (rw (c .before .before .rows .given .1) at (c .before .before .before .before .check .ensures)) (c .if1 .taken))
+
+sub-unpack : tie.Need-sub-unpack
+sub-unpack c =
+    let w = checked-whole _ _ (rw (c .before .before .rows .given .1) at (c .before .before .before .before .check .ensures)) in
+    omega (arith, w .long)
+
+part-unpack-start : tie.Need-part-unpack-start
+part-unpack-start c =
+    let w = checked-whole _ _ (rw (c .before .before .rows .given .1) at (c .before .before .before .before .check .ensures)) in
+    omega (arith, w .long)
+
+part-unpack-end : tie.Need-part-unpack-end
+part-unpack-end c = search needs
+
+unpack-requires : tie.Need-unpack-requires
+unpack-requires c κs =
+    let w = checked-whole _ _ (rw (c .before .before .before .before .rows .given .1) at (c .before .before .before .before .before .before .check .ensures)) in
+    (omega (arith, w .few-rows), omega (arith, w .few-columns), c .before .before .if1 .left)
+
+returns-2 : tie.Need-returns-2
+returns-2 c = ends-refused _ _ _ _ _ (read-refused _ _ _ (rw (c .before .why .given .1) at (c .before .before .before .check .ensures)))
+
+same-length : tie.Need-same-length
+same-length c = search needs
+
+returns-3 : tie.Need-returns-3
+unfolding unpacked
+returns-3 c =
+    ends-given _ _ _ _ _ _ _ (read-gives _ _ _ (rw (c .before .before .before .before .before .before .before .rows .given .1) at (c .before .before .before .before .before .before .before .before .before .check .ensures)) (c .before .before .before .before .before .if1 .left)) refl
+    (rw rest-is at (c .before .before .unpack .ensures) ∙ lay-is _ _)
+
+pub read-spec : {M : Type 1} → statement M
+read-spec =
+    tie.close
+    (tie.spec
+    check-requires
+    enum-known-why
+    enum-known-rows
+    mul-if1
+    returns
+    sub-unpack
+    part-unpack-start
+    part-unpack-end
+    unpack-requires
+    returns-2
+    same-length
+    returns-3)

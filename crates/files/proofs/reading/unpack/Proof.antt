@@ -1,0 +1,70 @@
+-- `files::unpack` meets its contract: v rows are laid. Assumes nothing.
+use borrow.Author.Needs.{needs}
+use native.Mathlib.Omega.{arith}
+use mathlib.Core.Path.{_≡_, refl, sym, _∙_, ap}
+use Prim.Native.Nat.{ℕ, _+_, _-_, _*_, _/_, _%_, _≤_, _<_}
+use native.Mathlib.Nat.{mul-le-mul}
+use Rattle.laws.specs.Places.{row-end}
+use Rattle.laws.specs.Lay.{Laid, blocks, upto, blocks-none, laid-block, blocks-done, length-upto}
+use Rattle.files.specs.Fields.{bitOf, width}
+use Rattle.files.proofs.reading.unpack.Statement.{statement}
+use Rattle.files.proofs.reading.unpack.Tie as tie
+
+abbrev Inv-loop : tie.InvT-loop
+Inv-loop bytes m n entries₀ w v₀ entries v = (v ≤ m) × (w ≡ width n) × Laid 0 (blocks v (λ v. upto n (bitOf bytes (v * width n)))) entries₀ entries
+
+abbrev μ-loop : tie.MeasureT-loop
+μ-loop bytes m n entries₀ w v₀ entries v = m - v
+
+width-of-requires : tie.Need-width-of-requires Inv-loop μ-loop
+width-of-requires c κs = search needs
+
+loop-holds : tie.Need-loop-holds Inv-loop μ-loop
+loop-holds c = (search needs, search needs, blocks-none _ _ _)
+
+mul-unpack-row : tie.Need-mul-unpack-row Inv-loop μ-loop
+mul-unpack-row c = record { fits = omega (arith, mul-le-mul {n₁ = c .before .loop .v} {m₁ = c .before .before .width-of .result} {n₂ = 65535} {m₂ = 8192} (search needs) (search needs)) }
+
+mul-unpack-row-2 : tie.Need-mul-unpack-row-2 Inv-loop μ-loop
+mul-unpack-row-2 c = record { fits = omega (arith, row-end (c .before .before .before .before .before .before .args .n) (c .before .before .before .before .before .before .args .n) (c .before .loop-test .taken) refl (c .before .before .before .before .before .before .pre .2)) }
+
+unpack-row-requires : tie.Need-unpack-row-requires Inv-loop μ-loop
+unpack-row-requires c κs = omega (arith, row-end (c .before .before .before .before .before .before .args .n) (c .before .before .before .before .before .before .args .n) (c .before .loop-test .taken) refl (c .before .before .before .before .before .before .pre .2))
+
+add-v : tie.Need-add-v Inv-loop μ-loop
+add-v c = search needs
+
+loop-less : tie.Need-loop-less Inv-loop μ-loop
+loop-less c = search needs
+
+loop-again : tie.Need-loop-again Inv-loop μ-loop
+loop-again c = (
+  search needs,
+  search needs,
+  laid-block _ _ _ _ _ _ _ _ (λ v. length-upto _ _) (omega arith)
+      (omega (arith, row-end (c .before .before .before .before .before .before .before .before .before .args .n) (c .before .before .before .before .before .before .before .before .before .args .n) (c .before .before .before .before .loop-test .taken) refl (c .before .before .before .before .before .before .before .before .before .pre .2)))
+      (rw (c .before .before .before .before .before .loop .inv .1) at (c .before .before .unpack-row .ensures)) (c .before .before .before .before .before .loop .inv .2),
+)
+
+same-length : tie.Need-same-length Inv-loop μ-loop
+same-length c = c .before .loop .inv .2 .long
+
+returns : tie.Need-returns Inv-loop μ-loop
+returns c = blocks-done _ _ _ _ _ _ (c .before .loop .inv .0) (c .loop-test .left) (c .before .loop .inv .2)
+
+pub unpack-spec : {M : Type 1} → statement M
+unpack-spec =
+    tie.close
+    (tie.spec
+    Inv-loop
+    μ-loop
+    width-of-requires
+    loop-holds
+    mul-unpack-row
+    mul-unpack-row-2
+    unpack-row-requires
+    add-v
+    loop-less
+    loop-again
+    same-length
+    returns)

@@ -1,0 +1,58 @@
+-- `files::unpack_row` meets its contract: c entries are laid. Assumes nothing.
+use borrow.Author.Needs.{needs}
+use native.Mathlib.Omega.{arith}
+use mathlib.Core.Path.{_≡_, refl, sym, _∙_, ap}
+use Prim.Native.Nat.{ℕ, _+_, _-_, _*_, _≤_, _<_}
+use Rattle.laws.specs.Lay.{Laid, upto, upto-none, laid-store, upto-done}
+use Rattle.files.specs.Fields.{bitOf}
+use Rattle.files.proofs.reading.unpack_row.Statement.{statement}
+use Rattle.files.proofs.reading.unpack_row.Tie as tie
+
+abbrev Inv-loop : tie.InvT-loop
+Inv-loop bytes at n entries₀ to c₀ entries c = (c ≤ n) × Laid to (upto c (bitOf bytes at)) entries₀ entries
+
+abbrev μ-loop : tie.MeasureT-loop
+μ-loop bytes at n entries₀ to c₀ entries c = n - c
+
+loop-holds : tie.Need-loop-holds Inv-loop μ-loop
+loop-holds c = (search needs, upto-none _ _ _)
+
+bit-requires : tie.Need-bit-requires Inv-loop μ-loop
+bit-requires c κs = search needs
+
+add-entries : tie.Need-add-entries Inv-loop μ-loop
+add-entries c = search needs
+
+slice-write-entries : tie.Need-slice-write-entries Inv-loop μ-loop
+slice-write-entries c = search needs
+
+add-c : tie.Need-add-c Inv-loop μ-loop
+add-c c = search needs
+
+loop-less : tie.Need-loop-less Inv-loop μ-loop
+loop-less c = search needs
+
+loop-again : tie.Need-loop-again Inv-loop μ-loop
+loop-again c = (search needs, laid-store _ _ _ _ _ _ _ refl (search needs) (c .bit .ensures .0) (c .before .before .loop .inv .1))
+
+same-length : tie.Need-same-length Inv-loop μ-loop
+same-length c = search needs
+
+returns : tie.Need-returns Inv-loop μ-loop
+returns c = upto-done _ _ _ _ _ _ (c .before .loop .inv .0) (c .loop-test .left) (c .before .loop .inv .1)
+
+pub unpack-row-spec : {M : Type 1} → statement M
+unpack-row-spec =
+    tie.close
+    (tie.spec
+    Inv-loop
+    μ-loop
+    loop-holds
+    bit-requires
+    add-entries
+    slice-write-entries
+    add-c
+    loop-less
+    loop-again
+    same-length
+    returns)

@@ -1,0 +1,14 @@
+-- `files::kept` meets its contract. Assumes nothing.
+use borrow.Author.Needs.{needs}
+use Rattle.files.specs.Fields.{padded-below, padded-above}
+use Rattle.files.proofs.weights.kept.Statement.{statement}
+use Rattle.files.proofs.weights.kept.Tie as tie
+
+returns : tie.Need-returns
+returns c = padded-below _ _ _ (c .if1 .taken)
+
+returns-2 : tie.Need-returns-2
+returns-2 c = padded-above _ _ _ (c .if1 .left)
+
+pub kept-spec : {M : Type 1} → statement M
+kept-spec = tie.close (tie.spec returns returns-2)

@@ -1,0 +1,20 @@
+-- `files::entry` meets its contract. Assumes nothing.
+use borrow.Author.Needs.{needs}
+use Rattle.files.specs.Fields.{padded-below, padded-above}
+use Rattle.files.proofs.writing.entry.Statement.{statement}
+use Rattle.files.proofs.writing.entry.Tie as tie
+
+add-result : tie.Need-add-result
+add-result c = search needs
+
+shared-slice-read-result : tie.Need-shared-slice-read-result
+shared-slice-read-result c = search needs
+
+returns : tie.Need-returns
+returns c = padded-below _ _ _ (search needs)
+
+returns-2 : tie.Need-returns-2
+returns-2 c = padded-above _ _ _ (search needs)
+
+pub entry-spec : {M : Type 1} → statement M
+entry-spec = tie.close (tie.spec add-result shared-slice-read-result returns returns-2)

@@ -1,0 +1,66 @@
+-- `files::pack_byte` meets its contract: the byte so far is the number of the entries read. Assumes nothing.
+use borrow.Author.Needs.{needs}
+use native.Mathlib.Omega.{arith}
+use mathlib.Core.Path.{_≡_, refl, sym, _∙_, ap}
+use Prim.Native.Nat.{ℕ, _+_, _-_, _*_, _/_, _%_, _≤_, _<_}
+use lib.ListN.{getD}
+use Rattle.laws.specs.Digits.{Spelt, spelt-none, spelt-more, spelt-room, spelt-done}
+use Rattle.files.specs.Fields.{padded, padded-le}
+use Rattle.files.proofs.writing.pack_byte.Statement.{statement}
+use Rattle.files.proofs.writing.pack_byte.Tie as tie
+
+abbrev Inv-loop : tie.InvT-loop
+Inv-loop entries from n q byte₀ t₀ byte t = (t ≤ 8) × Spelt (padded n (λ i. getD entries (from + i) 0)) (8 * q) t byte
+
+abbrev μ-loop : tie.MeasureT-loop
+μ-loop entries from n q byte₀ t₀ byte t = 8 - t
+
+loop-holds : tie.Need-loop-holds Inv-loop μ-loop
+loop-holds c = (search needs, spelt-none _ _)
+
+mul-byte : tie.Need-mul-byte Inv-loop μ-loop
+mul-byte c = record { fits = omega (arith, spelt-room _ _ _ 8 _ (c .loop-test .taken) (c .before .loop .inv .1)) }
+
+mul-entry : tie.Need-mul-entry Inv-loop μ-loop
+mul-entry c = search needs
+
+add-entry : tie.Need-add-entry Inv-loop μ-loop
+add-entry c = search needs
+
+entry-requires : tie.Need-entry-requires Inv-loop μ-loop
+entry-requires c κs = search needs
+
+add-byte : tie.Need-add-byte Inv-loop μ-loop
+add-byte c =
+    record {
+      fits = omega (arith, spelt-room _ _ _ 8 _ (c .before .loop-test .taken) (c .before .before .loop .inv .1), padded-le _ _ (8 * c .before .before .before .before .args .q + c .before .before .loop .t) (c .before .before .before .before .pre .2), c .entry .ensures);
+    }
+
+add-t : tie.Need-add-t Inv-loop μ-loop
+add-t c = search needs
+
+loop-less : tie.Need-loop-less Inv-loop μ-loop
+loop-less c = search needs
+
+loop-again : tie.Need-loop-again Inv-loop μ-loop
+loop-again c = (search needs, spelt-more _ _ _ _ _ (c .entry .ensures) (rw (c .entry .ensures) (padded-le _ _ _ (c .before .before .before .before .pre .2))) (c .before .before .loop .inv .1))
+
+returns : tie.Need-returns Inv-loop μ-loop
+returns c = spelt-done _ _ _ _ _ (c .before .loop .inv .0) (c .loop-test .left) (c .before .loop .inv .1)
+
+pub pack-byte-spec : {M : Type 1} → statement M
+pack-byte-spec =
+    tie.close
+    (tie.spec
+    Inv-loop
+    μ-loop
+    loop-holds
+    mul-byte
+    mul-entry
+    add-entry
+    entry-requires
+    add-byte
+    add-t
+    loop-less
+    loop-again
+    returns)

@@ -1,0 +1,66 @@
+-- `files::pack_row` meets its contract: q bytes are laid. Assumes nothing.
+use borrow.Author.Needs.{needs}
+use native.Mathlib.Omega.{arith}
+use mathlib.Core.Path.{_≡_, refl, sym, _∙_, ap}
+use Prim.Native.Nat.{ℕ, _+_, _-_, _*_, _/_, _%_, _≤_, _<_}
+use lib.ListN.{getD}
+use Rattle.laws.specs.Digits.{number}
+use Rattle.laws.specs.Lay.{Laid, upto, upto-none, laid-store, upto-done}
+use Rattle.files.specs.Fields.{padded, packed, width}
+use Rattle.files.proofs.writing.pack_row.Statement.{statement}
+use Rattle.files.proofs.writing.pack_row.Tie as tie
+
+abbrev Inv-loop : tie.InvT-loop
+Inv-loop entries from n file₀ at w q₀ file q =
+    (q ≤ w) × (w ≡ width n) × Laid at (upto q (λ q. number (padded n (λ i. getD entries (from + i) 0)) (8 * q) 8)) file₀ file
+
+abbrev μ-loop : tie.MeasureT-loop
+μ-loop entries from n file₀ at w q₀ file q = w - q
+
+width-of-requires : tie.Need-width-of-requires Inv-loop μ-loop
+width-of-requires c κs = search needs
+
+loop-holds : tie.Need-loop-holds Inv-loop μ-loop
+loop-holds c = (search needs, search needs, upto-none _ _ _)
+
+pack-byte-requires : tie.Need-pack-byte-requires Inv-loop μ-loop
+pack-byte-requires c κs = (search needs, search needs, c .before .before .before .before .before .pre .3)
+
+add-file : tie.Need-add-file Inv-loop μ-loop
+add-file c = search needs
+
+slice-write-file : tie.Need-slice-write-file Inv-loop μ-loop
+slice-write-file c = search needs
+
+add-q : tie.Need-add-q Inv-loop μ-loop
+add-q c = search needs
+
+loop-less : tie.Need-loop-less Inv-loop μ-loop
+loop-less c = search needs
+
+loop-again : tie.Need-loop-again Inv-loop μ-loop
+loop-again c = (search needs, search needs, laid-store _ _ _ _ _ _ _ refl (search needs) (c .pack-byte .ensures) (c .before .before .loop .inv .2))
+
+same-length : tie.Need-same-length Inv-loop μ-loop
+same-length c = c .before .loop .inv .2 .long
+
+returns : tie.Need-returns Inv-loop μ-loop
+unfolding packed
+returns c = upto-done _ _ _ _ _ _ (rw (c .before .loop .inv .1) at (c .before .loop .inv .0)) (rw (c .before .loop .inv .1) at (c .loop-test .left)) (c .before .loop .inv .2)
+
+pub pack-row-spec : {M : Type 1} → statement M
+pack-row-spec =
+    tie.close
+    (tie.spec
+    Inv-loop
+    μ-loop
+    width-of-requires
+    loop-holds
+    pack-byte-requires
+    add-file
+    slice-write-file
+    add-q
+    loop-less
+    loop-again
+    same-length
+    returns)

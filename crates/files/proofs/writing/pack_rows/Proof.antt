@@ -1,0 +1,81 @@
+-- `files::pack_rows` meets its contract: v rows are laid. Assumes nothing.
+use borrow.Author.Needs.{needs}
+use native.Mathlib.Omega.{arith}
+use mathlib.Core.Path.{_≡_, refl, sym, _∙_, ap}
+use Prim.Native.Nat.{ℕ, _+_, _-_, _*_, _/_, _%_, _≤_, _<_}
+use native.Mathlib.Nat.{mul-le-mul}
+use Rattle.laws.specs.Places.{row-end}
+use lib.ListN.{length, getD}
+use Rattle.laws.specs.Lay.{Laid, blocks, blocks-none, laid-block, blocks-done}
+use Rattle.files.specs.Fields.{packed, length-packed, width}
+use Rattle.files.specs.Writing.{cell}
+use Rattle.files.proofs.writing.pack_rows.Statement.{statement}
+use Rattle.files.proofs.writing.pack_rows.Tie as tie
+
+abbrev Inv-loop : tie.InvT-loop
+Inv-loop entries m n file₀ w v₀ file v =
+    (v ≤ m) × (w ≡ width n) × Laid 8 (blocks v (λ v. packed n (λ i. getD entries (v * n + i) 0))) file₀ file
+
+abbrev μ-loop : tie.MeasureT-loop
+μ-loop entries m n file₀ w v₀ file v = m - v
+
+width-of-requires : tie.Need-width-of-requires Inv-loop μ-loop
+width-of-requires c κs = search needs
+
+loop-holds : tie.Need-loop-holds Inv-loop μ-loop
+loop-holds c = (search needs, search needs, blocks-none _ _ _)
+
+mul-pack-row : tie.Need-mul-pack-row Inv-loop μ-loop
+mul-pack-row c = record { fits = omega (arith, row-end (c .before .before .before .before .before .args .n) (c .before .before .before .before .before .args .n) (c .loop-test .taken) refl (c .before .before .before .before .before .pre .2)) }
+
+mul-pack-row-2 : tie.Need-mul-pack-row-2 Inv-loop μ-loop
+mul-pack-row-2 c = record { fits = omega (arith, row-end {size = length (c .before .before .before .before .before .before .args .file .now) - 8} (c .before .before .before .width-of .result) (width (c .before .before .before .before .before .before .args .n)) (c .before .loop-test .taken) (c .before .before .loop .inv .1) (omega arith)) }
+
+add-pack-row : tie.Need-add-pack-row Inv-loop μ-loop
+add-pack-row c = record { fits = omega (arith, row-end {size = length (c .before .before .before .before .before .before .args .file .now) - 8} (c .before .before .before .width-of .result) (width (c .before .before .before .before .before .before .args .n)) (c .before .loop-test .taken) (c .before .before .loop .inv .1) (omega arith)) }
+
+pack-row-requires : tie.Need-pack-row-requires Inv-loop μ-loop
+pack-row-requires c κs = (
+  omega (arith, row-end (c .before .before .before .before .before .before .args .n) (c .before .before .before .before .before .before .args .n) (c .before .loop-test .taken) refl (c .before .before .before .before .before .before .pre .2)),
+  search needs,
+  omega (arith, row-end {size = length (c .before .before .before .before .before .before .args .file .now) - 8} (c .before .before .before .width-of .result) (width (c .before .before .before .before .before .before .args .n)) (c .before .loop-test .taken) (c .before .before .loop .inv .1) (omega arith), c .before .before .loop .inv .2 .long),
+  λ i h. c .before .before .before .before .before .before .pre .4 _ (cell _ _ _ i (c .before .loop-test .taken) h),
+)
+
+add-v : tie.Need-add-v Inv-loop μ-loop
+add-v c = search needs
+
+loop-less : tie.Need-loop-less Inv-loop μ-loop
+loop-less c = search needs
+
+loop-again : tie.Need-loop-again Inv-loop μ-loop
+loop-again c = (
+  search needs,
+  search needs,
+  laid-block _ _ _ _ _ _ _ _ (λ v. length-packed _ _) (ap (λ (w : ℕ). 8 + c .before .before .before .before .before .loop .v * w) (c .before .before .before .before .before .loop .inv .1))
+      (omega (arith, row-end {size = length (c .before .before .before .before .before .before .before .before .before .args .file .now) - 8} (c .before .before .before .before .before .before .width-of .result) (width (c .before .before .before .before .before .before .before .before .before .args .n)) (c .before .before .before .before .loop-test .taken) (c .before .before .before .before .before .loop .inv .1) (omega arith))) (c .before .before .pack-row .ensures) (c .before .before .before .before .before .loop .inv .2),
+)
+
+same-length : tie.Need-same-length Inv-loop μ-loop
+same-length c = c .before .loop .inv .2 .long
+
+returns : tie.Need-returns Inv-loop μ-loop
+returns c = blocks-done _ _ _ _ _ _ (c .before .loop .inv .0) (c .loop-test .left) (c .before .loop .inv .2)
+
+pub pack-rows-spec : {M : Type 1} → statement M
+pack-rows-spec =
+    tie.close
+    (tie.spec
+    Inv-loop
+    μ-loop
+    width-of-requires
+    loop-holds
+    mul-pack-row
+    mul-pack-row-2
+    add-pack-row
+    pack-row-requires
+    add-v
+    loop-less
+    loop-again
+    same-length
+    returns)

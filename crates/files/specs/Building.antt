@@ -1,0 +1,106 @@
+-- The ways through the checks of weights, and what is built: an accepted matrix whose rows are the shares. Assumes nothing.
+use Prim.Native.Nat.{ℕ, zero, suc, _+_, _-_, _*_, _/_, _^_, _≤_, _<_}
+use mathlib.Core.Path.{_≡_, refl, sym, ap, _∙_}
+use mathlib.Core.Bool.{Bool, true, false}
+use mathlib.Core.List.{List}
+use native.Mathlib.Omega.{arith}
+use native.Mathlib.Nat.{le-of-mul-le-mul-right, mul-comm}
+use borrow.Author.Tests.{lt-ltb, le-ltb, eq-eqb, ne-eqb}
+use lib.Dec.{eqb, ltb}
+use lib.ListN.{length, getD}
+use Rattle.laws.specs.Sums.{sumTo, sum-eq, sum-mono, sum-times, term-le}
+use Rattle.laws.specs.Digits.{number, number-shift, number-digit, digit, digit-le}
+use Rattle.laws.specs.Lay.{blocks, upto, length-upto, getD-upto, length-blocks, getD-blocks, blocks-each}
+use Rattle.laws.specs.Outcome.{Outcome, refused, gives}
+use Rattle.files.specs.Matrix.{Matrix, Accepted, bit, p, total, outside, most-rows, most-columns}
+use Rattle.files.specs.Files.{fileLength, matrixFile}
+use Rattle.files.specs.Weights.{counted, sum, share, built, buildOf, quotient}
+use Rattle.files.specs.Division.{Largest, share-largest, quotient-is}
+use Rattle.files.specs.Writing.{cell}
+use Rattle.files.specs.declared.weights.Usage.{Usage}
+
+-- ---- the checks
+module _ (usage : Usage) (weights : List ℕ) (n room : ℕ) where
+  pub build-rows : outside most-rows (length weights) ≡ true → buildOf usage weights n room ≡ refused 3
+  unfolding buildOf
+  build-rows a = rw a
+
+  pub build-columns : outside most-rows (length weights) ≡ false → outside most-columns n ≡ true → buildOf usage weights n room ≡ refused 3
+  unfolding buildOf
+  build-columns a b = rw (a, b)
+
+  module _ (a : outside most-rows (length weights) ≡ false) (b : outside most-columns n ≡ false) where
+    pub build-zero : sum usage weights ≡ 0 → buildOf usage weights n room ≡ refused 11
+    unfolding buildOf
+    build-zero c = rw (a, b, eq-eqb (sum usage weights) 0 c)
+
+    module _ (c : sum usage weights ≡ 0 → ⊥) where
+      pub build-full : room < fileLength (length weights) n → buildOf usage weights n room ≡ refused 13
+      unfolding buildOf
+      build-full d = rw (a, b, ne-eqb (sum usage weights) 0 c, lt-ltb room (fileLength (length weights) n) d)
+
+      pub build-gives : fileLength (length weights) n ≤ room → buildOf usage weights n room ≡ gives (matrixFile (built usage weights n))
+      unfolding buildOf
+      build-gives d = rw (a, b, ne-eqb (sum usage weights) 0 c, le-ltb room (fileLength (length weights) n) d)
+
+-- ---- what is built
+module _ (usage : Usage) (weights : List ℕ) (n : ℕ) where
+  -- the row of weight v, as a number
+  abbrev row : ℕ → ℕ
+  row v = share n (counted usage v (getD weights v 0)) (sum usage weights)
+
+  pub counted-le : (v : ℕ) → v < length weights → counted usage v (getD weights v 0) ≤ sum usage weights
+  unfolding sum
+  counted-le v l = term-le (length weights) v (λ v. counted usage v (getD weights v 0)) l
+
+  pub built-bit : (v c : ℕ) → v < length weights → c < n → bit (built usage weights n) v c ≡ digit n (row v) c
+  unfolding bit built
+  built-bit v c h l =
+      getD-blocks n (λ v. upto n (digit n (row v))) (λ v. length-upto n (digit n (row v))) (length weights) v c 0 h l ∙ getD-upto n (digit n (row v)) c 0 l
+
+  -- the bits that the division finds
+  pub built-quotient : 0 < sum usage weights → (v c : ℕ) → v < length weights → c < n →
+      quotient (sum usage weights) (counted usage v (getD weights v 0)) c ≡ bit (built usage weights n) v c
+  built-quotient z v c h l =
+      quotient-is (sum usage weights) (counted usage v (getD weights v 0)) n c z (counted-le v h) l ∙ sym (built-bit v c h l)
+
+  -- row v is the share of weight v
+  pub built-row : 0 < sum usage weights → (v : ℕ) → v < length weights → p (built usage weights n) v ≡ row v
+  unfolding p built
+  built-row z v h =
+      number-shift (bit (built usage weights n) v) (digit n (row v)) 0 0 n (λ i l. built-bit v (0 + i) h (omega arith)) ∙
+      number-digit n (row v) (share-largest n (counted usage v (getD weights v 0)) (sum usage weights) z .fits)
+
+  weights-sum : sumTo (length weights) (λ v. counted usage v (getD weights v 0)) ≡ sum usage weights
+  unfolding sum
+  weights-sum = refl
+
+  built-total : 0 < sum usage weights → total (built usage weights n) ≤ 2 ^ n
+  unfolding total built
+  built-total z =
+      let S : ℕ = sum usage weights in
+      let w : ℕ → ℕ = λ v. counted usage v (getD weights v 0) in
+      let T : sumTo (length weights) (p (built usage weights n)) ≡ sumTo (length weights) row =
+      sum-eq (length weights) (p (built usage weights n)) row (λ v l. built-row z v l) in
+      let scaled : sumTo (length weights) row * S ≤ sumTo (length weights) w * 2 ^ n =
+      rw (← sum-times (length weights) row S, ← sum-times (length weights) w (2 ^ n))
+      (sum-mono (length weights) (λ v. row v * S) (λ v. w v * 2 ^ n)
+      (λ v l. rw (mul-comm (w v) (2 ^ n)) (share-largest n (w v) S z .not-above))) in
+      let whole : sumTo (length weights) w ≡ S = weights-sum in
+      let all : sumTo (length weights) row * S ≤ 2 ^ n * S = omega (arith, scaled, ap (λ (x : ℕ). x * 2 ^ n) whole) in
+      rw T (le-of-mul-le-mul-right {k = S} all z)
+
+  pub built-accepted : 1 ≤ length weights → length weights ≤ most-rows → 1 ≤ n → n ≤ most-columns → 0 < sum usage weights → Accepted (built usage weights n)
+  unfolding built
+  built-accepted a b c d z =
+      record {
+        some-rows = a;
+        few-rows = b;
+        some-columns = c;
+        few-columns = d;
+        whole = length-blocks n (λ v. upto n (digit n (row v))) (λ v. length-upto n (digit n (row v))) (length weights);
+        bits =
+            blocks-each n (λ v. upto n (digit n (row v))) (λ v. length-upto n (digit n (row v))) (λ (x : ℕ). x ≤ 1) (length weights) 0
+            (λ v c h l. rw (getD-upto n (digit n (row v)) c 0 l) (digit-le n (row v) c));
+        sum = built-total z;
+      }

@@ -1,0 +1,94 @@
+-- 01, "Files" and "The engine's no": the file of a matrix, and what checking, reading and writing one come to. Assumes nothing.
+use Prim.Native.Nat.{ℕ, zero, suc, _+_, _*_, _^_, _≤_, _<_}
+use mathlib.Core.Path.{_≡_}
+use mathlib.Core.Bool.{Bool, not}
+use mathlib.Core.List.{List, [], _∷_, _++_}
+use lib.Dec.{eqb, ltb}
+use lib.ListN.{length, getD, take, drop}
+use Rattle.laws.specs.Sums.{any}
+use Rattle.laws.specs.Lay.{blocks, upto}
+use Rattle.laws.specs.Outcome.{Outcome, refused, gives, refuse, _>>_, _>>=_}
+use Rattle.files.specs.Fields.{fieldOf, fieldBytes, width, bitOf, packed, spare}
+use Rattle.files.specs.Matrix.{Matrix, Sizes, bit, total, outside, most-rows, most-columns}
+use Rattle.files.specs.Refusal.{numberOf}
+use Rattle.files.specs.declared.reading.Checked.{Checked}
+use Rattle.files.specs.declared.reading.Checked.the-variants as Checked
+use Rattle.files.specs.declared.writing.Written.{Written}
+use Rattle.files.specs.declared.writing.Written.the-variants as Written
+
+-- the length that a matrix file of m rows and n columns has
+abbrev pub fileLength : ℕ → ℕ → ℕ
+fileLength m n = 8 + m * width n
+
+-- its header: the length of the whole record, kind 32, m, n
+unfoldable pub headerBytes : ℕ → ℕ → List ℕ
+headerBytes m n = fieldBytes (fileLength m n) ++ fieldBytes 32 ++ fieldBytes m ++ fieldBytes n
+
+-- the file of a matrix: the header, then each row
+unfoldable pub matrixFile : Matrix → List ℕ
+matrixFile M = headerBytes (M .rows) (M .columns) ++ blocks (M .rows) (λ v. packed (M .columns) (bit M v))
+
+-- a matrix file's header: refusals 1 to 4, or its sizes
+unfoldable pub headerOf : List ℕ → Outcome Sizes
+headerOf file = do
+  refuse 1 (ltb (length file) 8)
+  refuse 1 (ltb (length file) (fieldOf file 0))
+  refuse 2 (not (eqb (fieldOf file 2) 32))
+  refuse 3 (outside most-rows (fieldOf file 4))
+  refuse 3 (outside most-columns (fieldOf file 6))
+  refuse 4 (not (eqb (fieldOf file 0) (fileLength (fieldOf file 4) (fieldOf file 6))))
+  refuse 4 (not (eqb (length file) (fieldOf file 0)))
+  gives (record { rows = fieldOf file 4; columns = fieldOf file 6 })
+
+-- the matrix whose rows are packed one after another: row v begins at byte v * width n
+unfoldable pub unpacked : List ℕ → Sizes → Matrix
+unpacked bytes s =
+    record { rows = s .rows; columns = s .columns; entries = blocks (s .rows) (λ v. upto (s .columns) (bitOf bytes (v * width (s .columns)))) }
+
+-- its rows: refusals 5 and 6, or the matrix
+unfoldable pub bodyOf : List ℕ → Sizes → Outcome Matrix
+bodyOf file s = do
+  refuse 5 (any (s .rows) (λ v. spare (drop 8 file) (s .columns) (v * width (s .columns))))
+  refuse 6 (ltb (2 ^ s .columns) (total (unpacked (drop 8 file) s)))
+  gives (unpacked (drop 8 file) s)
+
+-- a matrix file: its refusal, or its matrix
+unfoldable pub matrixOf : List ℕ → Outcome Matrix
+matrixOf file = do
+  s ← headerOf file
+  bodyOf file s
+
+-- reading a file into a buffer of `room` bytes: its matrix, whose entries are laid down
+unfoldable pub readOf : List ℕ → ℕ → Outcome Matrix
+readOf file room = do
+  M ← matrixOf file
+  refuse 13 (ltb room (M .rows * M .columns))
+  gives M
+
+-- writing m rows and n columns, row after row in `entries`, into a buffer of `room` bytes: the file that is laid down
+unfoldable pub writeOf : ℕ → ℕ → List ℕ → ℕ → Outcome (List ℕ)
+writeOf m n entries room = do
+  refuse 3 (outside most-rows m)
+  refuse 3 (outside most-columns n)
+  refuse 13 (ltb (length entries) (m * n))
+  refuse 5 (any (m * n) (λ i. ltb 1 (getD entries i 0)))
+  refuse 6 (ltb (2 ^ n) (total (record { rows = m; columns = n; entries = take (m * n) entries })))
+  refuse 13 (ltb room (fileLength m n))
+  gives (matrixFile (record { rows = m; columns = n; entries = take (m * n) entries }))
+
+-- ---- the answers' cases in 01's numbers and values
+abbrev pub checked : Checked → Outcome Sizes
+checked (Checked.Refused why) = refused (numberOf why)
+checked (Checked.Matrix m n) = gives (record { rows = m; columns = n })
+
+abbrev pub written : Written → Outcome ℕ
+written (Written.Refused why) = refused (numberOf why)
+written (Written.Length n) = gives n
+
+-- ---- what a header that has passed says: the sizes are in their limits, and the rows are all there and nothing else
+pub record Whole (file : List ℕ) (s : Sizes) : Type 0 where
+  pub some-rows : 1 ≤ s .rows
+  pub few-rows : s .rows ≤ most-rows
+  pub some-columns : 1 ≤ s .columns
+  pub few-columns : s .columns ≤ most-columns
+  pub long : length file ≡ fileLength (s .rows) (s .columns)

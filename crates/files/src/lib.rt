@@ -1,0 +1,25 @@
+// Matrix files: refusals, record fields and packed bits, checking, reading and writing a matrix file, and building one from weights (01, "Matrix and
+// walk", "Files", "The engine's no").
+//
+// Every operation takes any content and any length, and answers a result or one refusal. Its contract cites one definition of specs/Files.antt or
+// specs/Weights.antt, which gives the outcome; a lent buffer ends as it began, with what the outcome lays at its front.
+mod fields;
+mod live;
+mod reading;
+mod refusals;
+mod weights;
+mod writing;
+
+pub use fields::bit;
+pub use fields::field;
+pub use reading::COLUMNS;
+pub use reading::Checked;
+pub use reading::ROWS;
+pub use reading::check;
+pub use reading::read;
+pub use refusals::Refusal;
+pub use refusals::number;
+pub use weights::Usage;
+pub use weights::build;
+pub use writing::Written;
+pub use writing::write;

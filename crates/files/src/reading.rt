@@ -1,0 +1,143 @@
+// Matrix files: checking and reading (01, "Files").
+ghost use mathlib.Core.Path.{_≡_};
+ghost use Prim.Native.Nat.{_+_, _*_, _≤_, _<_};
+ghost use lib.ListN.{length};
+ghost use Rattle.laws.specs.Sums.{any};
+ghost use Rattle.laws.specs.Lay.{blocks, lay, layAt, upto};
+ghost use Rattle.laws.specs.Outcome.{laid, mapped};
+ghost use Rattle.files.specs.Fields.{bitOf, spare, width};
+ghost use Rattle.files.specs.Matrix.{Matrix, sizes};
+ghost use Rattle.files.specs.Files.{bodyOf, checked, headerOf, matrixOf, readOf, Whole};
+use crate::fields::bit;
+use crate::fields::field;
+use crate::fields::spare_set;
+use crate::fields::width_of;
+use crate::live::fits;
+use crate::refusals::Refusal;
+
+// The largest number of rows and of columns.
+pub const ROWS: usize = 128;
+
+pub const COLUMNS: usize = 128;
+
+// A refusal, or the sizes of a matrix.
+pub enum Checked {
+    Refused(Refusal),
+    Matrix { rows: usize, columns: usize },
+}
+
+// The header's checks, 1 to 4.
+fn header(file: &[u8]) -> Checked
+    ensures { λ r. ⌜ checked r ≡ headerOf (now (file .entry)) ⌝ }
+{
+    if file.len() < 8 {
+        return Checked::Refused(Refusal::Short);
+    }
+    let length = field(file, 0);
+    if file.len() < length {
+        return Checked::Refused(Refusal::Short);
+    }
+    if field(file, 2) != 32 {
+        return Checked::Refused(Refusal::Kind);
+    }
+    let rows = field(file, 4);
+    if rows < 1 {
+        return Checked::Refused(Refusal::Size);
+    }
+    if ROWS < rows {
+        return Checked::Refused(Refusal::Size);
+    }
+    let columns = field(file, 6);
+    if columns < 1 {
+        return Checked::Refused(Refusal::Size);
+    }
+    if COLUMNS < columns {
+        return Checked::Refused(Refusal::Size);
+    }
+    if length != 8 + rows * width_of(columns) {
+        return Checked::Refused(Refusal::Length);
+    }
+    if file.len() != length {
+        return Checked::Refused(Refusal::Length);
+    }
+    Checked::Matrix { rows, columns }
+}
+
+// Whether a spare bit is set in any of `count` packed strings of n bits, one after another.
+fn any_spare(bytes: &[u8], count: usize, n: usize) -> bool
+    requires { ⌜ (0 < n) × (n ≤ 65535) × (count * width n ≤ length (now bytes)) ⌝ }
+    ensures { λ r. ⌜ r ≡ any count (λ v. spare (now (bytes .entry)) n (v * width n)) ⌝ }
+{
+    let w = width_of(n);
+    for v in 0..count {
+        if spare_set(bytes, n, v * w) {
+            return true;
+        }
+    }
+    false
+}
+
+// The checks of the rows, 5 and 6, of a file whose header has passed.
+fn body(file: &[u8], rows: usize, columns: usize) -> Checked
+    requires { ⌜ Whole (now file) (record { rows = rows; columns = columns }) ⌝ }
+    ensures { λ r. ⌜ checked r ≡ mapped sizes (bodyOf (now (file .entry)) (record { rows = rows; columns = columns })) ⌝ }
+{
+    let bytes = &file[8..];
+    if any_spare(bytes, rows, columns) {
+        return Checked::Refused(Refusal::Bit);
+    }
+    let w = width_of(columns);
+    if !fits(bytes, 8, w, rows, columns) {
+        return Checked::Refused(Refusal::Sum);
+    }
+    Checked::Matrix { rows, columns }
+}
+
+// Checks a matrix file: its rows and columns, or refusal 1 to 6.
+pub fn check(file: &[u8]) -> Checked
+    ensures { λ r. ⌜ checked r ≡ mapped sizes (matrixOf (now (file .entry))) ⌝ }
+{
+    match header(file) {
+        Checked::Refused(why) => Checked::Refused(why),
+        Checked::Matrix { rows, columns } => body(file, rows, columns),
+    }
+}
+
+// Lays the n bits packed from byte `at` on, a byte each, into `entries` from place `to` on.
+fn unpack_row(bytes: &[u8], at: usize, n: usize, entries: &mut [u8], to: usize)
+    requires { ⌜ to + n ≤ length (now entries) ⌝ }
+    ensures { λ _. ⌜ now (entries .exit) ≡ layAt to (upto n (bitOf (now (bytes .entry)) at)) (now (entries .entry)) ⌝ }
+{
+    for c in 0..n {
+        entries[to + c] = bit(bytes, at, c);
+    }
+}
+
+// Lays m packed rows of n bits into `entries`, row after row.
+fn unpack(bytes: &[u8], m: usize, n: usize, entries: &mut [u8])
+    requires { ⌜ (m ≤ 65535) × (n ≤ 65535) × (m * n ≤ length (now entries)) ⌝ }
+    ensures { λ _. ⌜ now (entries .exit) ≡ layAt 0 (blocks m (λ v. upto n (bitOf (now (bytes .entry)) (v * width n)))) (now (entries .entry)) ⌝ }
+{
+    let w = width_of(n);
+    for v in 0..m {
+        unpack_row(bytes, v * w, n, entries, v * n);
+    }
+}
+
+// Reads a matrix file: its rows and columns, with its entries laid row after row at the front of `entries`; or refusal 1 to 6, then 13 for
+// `entries`.
+pub fn read(file: &[u8], entries: &mut [u8]) -> Checked
+    ensures { λ r. ⌜ checked r ≡ mapped sizes (readOf (now (file .entry)) (length (now (entries .entry)))) ⌝ }
+    ensures { λ r. ⌜ now (entries .exit) ≡ lay (laid (λ M. M .entries) (readOf (now (file .entry)) (length (now (entries .entry))))) (now (entries .entry)) ⌝ }
+{
+    match check(file) {
+        Checked::Refused(why) => Checked::Refused(why),
+        Checked::Matrix { rows, columns } => {
+            if entries.len() < rows * columns {
+                return Checked::Refused(Refusal::Buffer);
+            }
+            unpack(&file[8..], rows, columns, entries);
+            Checked::Matrix { rows, columns }
+        }
+    }
+}

@@ -1,0 +1,126 @@
+// Matrix files: writing (01, "Files").
+ghost use mathlib.Core.Path.{_≡_};
+ghost use Prim.Native.Nat.{ℕ, _+_, _*_, _≤_, _<_};
+ghost use lib.Dec.{ltb};
+ghost use lib.ListN.{length, getD};
+ghost use Rattle.laws.specs.Sums.{any};
+ghost use Rattle.laws.specs.Digits.{number};
+ghost use Rattle.laws.specs.Lay.{blocks, lay, layAt};
+ghost use Rattle.laws.specs.Outcome.{laid, mapped};
+ghost use Rattle.files.specs.Fields.{packed, padded, width};
+ghost use Rattle.files.specs.Matrix.{most-columns, most-rows};
+ghost use Rattle.files.specs.Files.{headerBytes, writeOf, written};
+use crate::fields::put_field;
+use crate::fields::width_of;
+use crate::live::fits;
+use crate::reading::COLUMNS;
+use crate::reading::ROWS;
+use crate::refusals::Refusal;
+
+// A refusal, or the number of bytes written.
+pub enum Written {
+    Refused(Refusal),
+    Length(usize),
+}
+
+// Whether any of the first n entries is neither 0 nor 1.
+fn any_above_one(entries: &[u8], n: usize) -> bool
+    requires { ⌜ n ≤ length (now entries) ⌝ }
+    ensures { λ r. ⌜ r ≡ any n (λ i. ltb 1 (getD (now (entries .entry)) i 0)) ⌝ }
+{
+    for i in 0..n {
+        if 1 < entries[i] {
+            return true;
+        }
+    }
+    false
+}
+
+// Lays the header of a file of m rows and n columns at the front of `file`.
+pub(crate) fn put_header(file: &mut [u8], m: usize, n: usize)
+    requires { ⌜ (8 ≤ length (now file)) × (m ≤ most-rows) × (n ≤ most-columns) ⌝ }
+    ensures { λ _. ⌜ now (file .exit) ≡ layAt 0 (headerBytes m n) (now (file .entry)) ⌝ }
+{
+    put_field(file, 0, 8 + m * width_of(n));
+    put_field(file, 2, 32);
+    put_field(file, 4, m);
+    put_field(file, 6, n);
+}
+
+// Entry c of the n that begin at place `from`; 0 from n on.
+fn entry(entries: &[u8], from: usize, n: usize, c: usize) -> u8
+    requires { ⌜ (from + n ≤ length (now entries)) × (c < 65536) ⌝ }
+    ensures { λ r. ⌜ r ≡ padded n (λ i. getD (now (entries .entry)) (from + i) 0) c ⌝ }
+{
+    if c < n { entries[from + c] } else { 0 }
+}
+
+// Byte q of the n entries from place `from` on, packed.
+fn pack_byte(entries: &[u8], from: usize, n: usize, q: usize) -> u8
+    requires { ⌜ (from + n ≤ length (now entries)) × (q < 8191) × ((i : ℕ) → i < n → getD (now entries) (from + i) 0 ≤ 1) ⌝ }
+    ensures { λ r. ⌜ r ≡ number (padded n (λ i. getD (now (entries .entry)) (from + i) 0)) (8 * q) 8 ⌝ }
+{
+    let mut byte: u8 = 0;
+    for t in 0..8 {
+        byte = 2 * byte + entry(entries, from, n, 8 * q + t);
+    }
+    byte
+}
+
+// Lays the n entries from place `from` on, packed, into `file` from byte `at` on.
+fn pack_row(entries: &[u8], from: usize, n: usize, file: &mut [u8], at: usize)
+    requires { ⌜ (from + n ≤ length (now entries)) × (n ≤ most-columns) × (at + width n ≤ length (now file)) × ((i : ℕ) → i < n → getD (now entries) (from + i) 0 ≤ 1) ⌝ }
+    ensures { λ _. ⌜ now (file .exit) ≡ layAt at (packed n (λ i. getD (now (entries .entry)) (from + i) 0)) (now (file .entry)) ⌝ }
+{
+    let w = width_of(n);
+    for q in 0..w {
+        file[at + q] = pack_byte(entries, from, n, q);
+    }
+}
+
+// Lays m rows of n entries, packed, behind the header of `file`.
+fn pack_rows(entries: &[u8], m: usize, n: usize, file: &mut [u8])
+    requires { ⌜ (m ≤ most-rows) × (n ≤ most-columns) × (m * n ≤ length (now entries)) × (8 + m * width n ≤ length (now file)) × ((i : ℕ) → i < m * n → getD (now entries) i 0 ≤ 1) ⌝ }
+    ensures { λ _. ⌜ now (file .exit) ≡ layAt 8 (blocks m (λ v. packed n (λ i. getD (now (entries .entry)) (v * n + i) 0))) (now (file .entry)) ⌝ }
+{
+    let w = width_of(n);
+    for v in 0..m {
+        pack_row(entries, v * n, n, file, 8 + v * w);
+    }
+}
+
+// Writes the file of the matrix of `rows` rows and `columns` columns that stands row after row in `entries`, at the front of `file`, and answers
+// its length; or refusal 3, 13 for `entries`, 5, 6, then 13 for `file`.
+pub fn write(rows: usize, columns: usize, entries: &[u8], file: &mut [u8]) -> Written
+    ensures { λ r. ⌜ written r ≡ mapped length (writeOf rows columns (now (entries .entry)) (length (now (file .entry)))) ⌝ }
+    ensures { λ r. ⌜ now (file .exit) ≡ lay (laid (λ bytes. bytes) (writeOf rows columns (now (entries .entry)) (length (now (file .entry))))) (now (file .entry)) ⌝ }
+{
+    if rows < 1 {
+        return Written::Refused(Refusal::Size);
+    }
+    if ROWS < rows {
+        return Written::Refused(Refusal::Size);
+    }
+    if columns < 1 {
+        return Written::Refused(Refusal::Size);
+    }
+    if COLUMNS < columns {
+        return Written::Refused(Refusal::Size);
+    }
+    if entries.len() < rows * columns {
+        return Written::Refused(Refusal::Buffer);
+    }
+    if any_above_one(entries, rows * columns) {
+        return Written::Refused(Refusal::Bit);
+    }
+    if !fits(entries, 1, columns, rows, columns) {
+        return Written::Refused(Refusal::Sum);
+    }
+    let length = 8 + rows * width_of(columns);
+    if file.len() < length {
+        return Written::Refused(Refusal::Buffer);
+    }
+    put_header(file, rows, columns);
+    pack_rows(entries, rows, columns, file);
+    Written::Length(length)
+}

@@ -1,0 +1,134 @@
+-- A number by its binary digits, the first digit the highest: how 01 reads a row, a byte and a string of bits. Assumes nothing.
+use Prim.Native.Nat.{ℕ, zero, suc, _+_, _-_, _*_, _/_, _%_, _^_, _≤_, _<_}
+use mathlib.Core.Path.{_≡_, refl, ap, sym, _∙_, subst}
+use mathlib.Core.Logic.{⊎-elim}
+use native.Mathlib.Nat.{add-zero, eq-or-lt-of-le, mod-eq-of-lt, pow-succ'}
+use native.Mathlib.Numerals.{add-one}
+use native.Mathlib.Omega.{arith}
+use lib.Bits.{bitAnd, and-mask}
+use lib.Pow.{mod-pow-add, pow-mono}
+
+-- the number whose k digits are f c, f (c + 1), ..
+unfoldable pub number : (ℕ → ℕ) → ℕ → ℕ → ℕ
+number f c zero = 0
+number f c (suc k) = f c * 2 ^ k + number f (suc c) k
+
+-- digit i of the k digits of x
+unfoldable pub digit : ℕ → ℕ → ℕ → ℕ
+digit k x i = x / 2 ^ (k - 1 - i) % 2
+
+pub digit-le : (k x i : ℕ) → digit k x i ≤ 1
+unfolding digit
+digit-le k x i = omega arith
+
+-- ---- digits from c on, k of them
+number-snoc : (f : ℕ → ℕ) (c k : ℕ) → number f c (suc k) ≡ 2 * number f c k + f (c + k)
+unfolding number
+number-snoc f c zero = omega (arith, ap f (add-zero c))
+number-snoc f c (suc k) =
+    let e : suc c + k ≡ c + suc k = omega arith in
+    rw (pow-succ' 2 k) (omega (arith, number-snoc f (suc c) k, ap f e))
+
+-- one more digit at the end, in the words of a loop that reads on
+pub number-more : (f : ℕ → ℕ) (c k : ℕ) → number f c (k + 1) ≡ 2 * number f c k + f (c + k)
+number-more f c k = rw (add-one k) (number-snoc f c k)
+
+pub number-none : (f : ℕ → ℕ) (c : ℕ) → number f c 0 ≡ 0
+unfolding number
+number-none f c = refl
+
+-- the digits may be counted from elsewhere
+pub number-shift : (f g : ℕ → ℕ) (c d k : ℕ) → ((i : ℕ) → i < k → f (c + i) ≡ g (d + i)) → number f c k ≡ number g d k
+unfolding number
+number-shift f g c d zero e = refl
+number-shift f g c d (suc k) e =
+    let h : f c ≡ g d = ap f (omega arith) ∙ (e 0 (omega arith) ∙ ap g (omega arith)) in
+    omega (
+      arith,
+      ap (λ (x : ℕ). x * 2 ^ k) h,
+      number-shift f g (suc c) (suc d) k (λ i l. ap f (omega arith) ∙ (e (suc i) (omega arith) ∙ ap g (omega arith))),
+    )
+
+digit-lt : (x p r : ℕ) → x ≤ 1 → r < p → x * p + r < 2 * p
+digit-lt zero p r h l = omega arith
+digit-lt (suc zero) p r h l = omega arith
+digit-lt (suc (suc x)) p r h l = absurd (omega arith)
+
+pub number-lt : (f : ℕ → ℕ) (c k : ℕ) → ((i : ℕ) → c ≤ i → i < c + k → f i ≤ 1) → number f c k < 2 ^ k
+unfolding number
+number-lt f c zero ok = omega arith
+number-lt f c (suc k) ok =
+    rw (pow-succ' 2 k)
+    (omega (
+      arith,
+      digit-lt (f c) (2 ^ k) (number f (suc c) k) (ok c (omega arith) (omega arith))
+          (number-lt f (suc c) k (λ i a b. ok i (omega arith) (omega arith))),
+    ))
+
+apart : (x y p r t : ℕ) → x ≤ 1 → y ≤ 1 → r < p → t < p → x * p + r ≡ y * p + t → (x ≡ y) × (r ≡ t)
+apart zero zero p r t a b l q e = omega arith
+apart zero (suc zero) p r t a b l q e = absurd (omega arith)
+apart (suc zero) zero p r t a b l q e = absurd (omega arith)
+apart (suc zero) (suc zero) p r t a b l q e = omega arith
+apart zero (suc (suc y)) p r t a b l q e = absurd (omega arith)
+apart (suc zero) (suc (suc y)) p r t a b l q e = absurd (omega arith)
+apart (suc (suc x)) y p r t a b l q e = absurd (omega arith)
+
+-- the number fixes its digits
+pub digits-of : (f g : ℕ → ℕ) (k c : ℕ) → ((i : ℕ) → c ≤ i → i < c + k → f i ≤ 1) → ((i : ℕ) → c ≤ i → i < c + k → g i ≤ 1) →
+    number f c k ≡ number g c k → (i : ℕ) → c ≤ i → i < c + k → f i ≡ g i
+unfolding number
+digits-of f g zero c okf okg e i a b = absurd (omega arith)
+digits-of f g (suc k) c okf okg e i a b =
+    let okf′ : (i : ℕ) → suc c ≤ i → i < suc c + k → f i ≤ 1 = λ i a b. okf i (omega arith) (omega arith) in
+    let okg′ : (i : ℕ) → suc c ≤ i → i < suc c + k → g i ≤ 1 = λ i a b. okg i (omega arith) (omega arith) in
+    let d =
+    apart (f c) (g c) (2 ^ k) (number f (suc c) k) (number g (suc c) k) (okf c (omega arith) (omega arith))
+    (okg c (omega arith) (omega arith)) (number-lt f (suc c) k okf′) (number-lt g (suc c) k okg′) e in
+    ⊎-elim (λ (q : c ≡ i). rw (← q) (d .0)) (λ (q : c < i). digits-of f g k (suc c) okf′ okg′ (d .1) i q (omega arith)) (eq-or-lt-of-le a)
+
+-- ---- number and digit are inverse
+-- the last k digits
+pub low-digits : (n x k c : ℕ) → c + k ≡ n → number (digit n x) c k ≡ x % 2 ^ k
+unfolding number digit
+low-digits n x zero c e = omega arith
+low-digits n x (suc k) c e =
+    let q : n - 1 - c ≡ k = omega arith in
+    let o : 1 + k ≡ suc k = omega arith in
+    rw q (omega (arith, low-digits n x k (suc c) (omega arith), rw o at (mod-pow-add x 1 k)))
+
+pub number-digit : (k x : ℕ) → x < 2 ^ k → number (digit k x) 0 k ≡ x
+number-digit k x h = low-digits k x k 0 (omega arith) ∙ mod-eq-of-lt h
+
+pub digit-number : (f : ℕ → ℕ) (c k i : ℕ) → ((i : ℕ) → c ≤ i → i < c + k → f i ≤ 1) → i < k → digit k (number f c k) i ≡ f (c + i)
+digit-number f c k i ok h =
+    digits-of (digit k (number f c k)) (λ j. f (c + j)) k 0 (λ j a b. digit-le k (number f c k) j)
+    (λ j a b. ok (c + j) (omega arith) (omega arith))
+    (number-digit k (number f c k) (number-lt f c k ok) ∙ number-shift f (λ j. f (c + j)) c 0 k (λ j l. ap (λ (z : ℕ). f (c + z)) (omega arith)))
+    i (omega arith) (omega arith)
+
+-- a mask of 1 is the rest of a division by 2
+pub and-one : (x : ℕ) → bitAnd x 1 ≡ x % 2
+and-one x = and-mask x 1
+
+-- ---- a loop that reads digits on: x is the number that the k digits from c on spell
+pub record Spelt (f : ℕ → ℕ) (c k x : ℕ) : Type 0 where
+  pub is : x ≡ number f c k
+  pub small : x < 2 ^ k
+
+module _ (f : ℕ → ℕ) (c : ℕ) where
+  pub spelt-none : Spelt f c 0 0
+  spelt-none = record { is = sym (number-none f c); small = omega arith }
+
+  pub spelt-more : (k x b : ℕ) → b ≡ f (c + k) → b ≤ 1 → Spelt f c k x → Spelt f c (k + 1) (2 * x + b)
+  spelt-more k x b e h s =
+      record { is = rw (e, s .is) (sym (number-more f c k)); small = rw (add-one k, pow-succ' 2 k) (omega (arith, s .small)) }
+
+  -- room for one digit more
+  pub spelt-room : (k n x : ℕ) → k < n → Spelt f c k x → 2 * x + 1 < 2 ^ n
+  spelt-room k n x h s = omega (arith, s .small, pow-mono {i = suc k} {j = n} h, pow-succ' 2 k)
+
+  pub spelt-done : (k n x : ℕ) → k ≤ n → n ≤ k → Spelt f c k x → x ≡ number f c n
+  spelt-done k n x a b s =
+      let e : k ≡ n = omega arith in
+      subst (λ (j : ℕ). x ≡ number f c j) e (s .is)
