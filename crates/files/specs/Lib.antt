@@ -3,6 +3,7 @@ pub mod Refusal
 pub mod Fields
 pub mod Matrix
 pub mod Files
+pub mod Strings
 pub mod Live
 pub mod Checks
 pub mod Writing

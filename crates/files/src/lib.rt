@@ -5,6 +5,7 @@
 // specs/Weights.antt, which gives the outcome; a lent buffer ends as it began, with what the outcome lays at its front.
 mod fields;
 mod live;
+mod packing;
 mod reading;
 mod refusals;
 mod weights;
@@ -12,6 +13,8 @@ mod writing;
 
 pub use fields::bit;
 pub use fields::field;
+pub use packing::Strings;
+pub use packing::check_strings;
 pub use reading::COLUMNS;
 pub use reading::Checked;
 pub use reading::ROWS;

@@ -2,17 +2,16 @@
 ghost use mathlib.Core.Path.{_≡_};
 ghost use Prim.Native.Nat.{_+_, _*_, _≤_, _<_};
 ghost use lib.ListN.{length};
-ghost use Rattle.laws.specs.Sums.{any};
 ghost use Rattle.laws.specs.Lay.{blocks, lay, layAt, upto};
 ghost use Rattle.laws.specs.Outcome.{laid, mapped};
-ghost use Rattle.files.specs.Fields.{bitOf, spare, width};
+ghost use Rattle.files.specs.Fields.{bitOf, width};
 ghost use Rattle.files.specs.Matrix.{Matrix, sizes};
 ghost use Rattle.files.specs.Files.{bodyOf, checked, headerOf, matrixOf, readOf, Whole};
 use crate::fields::bit;
 use crate::fields::field;
-use crate::fields::spare_set;
 use crate::fields::width_of;
 use crate::live::fits;
+use crate::packing::any_spare;
 use crate::refusals::Refusal;
 
 // The largest number of rows and of columns.
@@ -61,20 +60,6 @@ fn header(file: &[u8]) -> Checked
         return Checked::Refused(Refusal::Length);
     }
     Checked::Matrix { rows, columns }
-}
-
-// Whether a spare bit is set in any of `count` packed strings of n bits, one after another.
-fn any_spare(bytes: &[u8], count: usize, n: usize) -> bool
-    requires { ⌜ (0 < n) × (n ≤ 65535) × (count * width n ≤ length (now bytes)) ⌝ }
-    ensures { λ r. ⌜ r ≡ any count (λ v. spare (now (bytes .entry)) n (v * width n)) ⌝ }
-{
-    let w = width_of(n);
-    for v in 0..count {
-        if spare_set(bytes, n, v * w) {
-            return true;
-        }
-    }
-    false
 }
 
 // The checks of the rows, 5 and 6, of a file whose header has passed.

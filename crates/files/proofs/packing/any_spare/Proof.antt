@@ -7,8 +7,8 @@ use Prim.Native.Nat.{ℕ, _+_, _-_, _*_, _≤_, _<_}
 use Rattle.laws.specs.Sums.{any, any-none, any-more, any-found, any-done}
 use Rattle.laws.specs.Places.{row-end}
 use Rattle.files.specs.Fields.{spare, width}
-use Rattle.files.proofs.reading.any_spare.Statement.{statement}
-use Rattle.files.proofs.reading.any_spare.Tie as tie
+use Rattle.files.proofs.packing.any_spare.Statement.{statement}
+use Rattle.files.proofs.packing.any_spare.Tie as tie
 
 abbrev Inv-loop : tie.InvT-loop
 Inv-loop bytes count n w v₀ v = (v ≤ count) × (w ≡ width n) × (any v (λ v. spare bytes n (v * width n)) ≡ false)
