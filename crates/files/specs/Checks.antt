@@ -92,6 +92,23 @@ header-whole file s e =
     let e = eqb-true (length file) (fieldOf file 0) (not-false _ (c7 .0)) in
     subst (Whole file) (gives-inj (c7 .1)) (record { some-rows = r .0; few-rows = r .1; some-columns = c .0; few-columns = c .1; long = e ∙ l })
 
+-- and its fields
+pub header-fields : (file : List ℕ) (s : Sizes) → headerOf file ≡ gives s →
+    (fieldOf file 0 ≡ fileLength (s .rows) (s .columns)) × (fieldOf file 2 ≡ 32) × (fieldOf file 4 ≡ s .rows) × (fieldOf file 6 ≡ s .columns)
+unfolding headerOf
+header-fields file s e =
+    let c1 = passed 1 (ltb (length file) 8) _ s e in
+    let c2 = passed 1 (ltb (length file) (fieldOf file 0)) _ s (c1 .1) in
+    let c3 = passed 2 (not (eqb (fieldOf file 2) 32)) _ s (c2 .1) in
+    let c4 = passed 3 (outside most-rows (fieldOf file 4)) _ s (c3 .1) in
+    let c5 = passed 3 (outside most-columns (fieldOf file 6)) _ s (c4 .1) in
+    let c6 = passed 4 _ _ s (c5 .1) in
+    let c7 = passed 4 (not (eqb (length file) (fieldOf file 0))) _ s (c6 .1) in
+    let k = eqb-true (fieldOf file 2) 32 (not-false _ (c3 .0)) in
+    let l = eqb-true (fieldOf file 0) (fileLength (fieldOf file 4) (fieldOf file 6)) (not-false _ (c6 .0)) in
+    let g = gives-inj (c7 .1) in
+    (l ∙ ap (λ (t : Sizes). fileLength (t .rows) (t .columns)) g, k, ap (λ (t : Sizes). t .rows) g, ap (λ (t : Sizes). t .columns) g)
+
 -- ---- the rows: what the live test and the spare bits say of the matrix
 -- entry by entry, the matrix of packed rows is those rows
 pub unpacked-bit : (bytes : List ℕ) (s : Sizes) (v c : ℕ) → v < s .rows → c < s .columns →

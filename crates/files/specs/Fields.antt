@@ -5,14 +5,14 @@ use mathlib.Core.Bool.{Bool, true, false, not, cond}
 use mathlib.Core.List.{List, [], _∷_}
 use mathlib.Core.Logic.{⊎-elim}
 use native.Mathlib.Nat.{zero-div, one-mul}
-use borrow.Author.Tests.{lt-ltb, le-ltb}
+use borrow.Author.Tests.{lt-ltb, le-ltb, eq-eqb, eqb-true, not-false}
 use native.Mathlib.Omega.{arith}
 use lib.Bits.{bitAnd, and-mask}
 use lib.Dec.{eqb, ltb}
 use lib.ListN.{length, getD, set, drop, length-set, List·getD-eq-default}
 use lib.Pow.{pow-pos, shl-exact}
 use lib.Seq.{getD-drop}
-use Rattle.laws.specs.Digits.{number, digit, digit-le, number-shift, low-digits}
+use Rattle.laws.specs.Digits.{number, digit, digit-le, number-shift, low-digits, number-zero, zero-digits}
 use Rattle.laws.specs.Places.{lt-or-ge}
 use Rattle.laws.specs.Lay.{upto, layAt, layAt-after, set-is, upto-eq, length-upto}
 
@@ -128,3 +128,13 @@ packed-eq n f g e =
 pub length-packed : (n : ℕ) (f : ℕ → ℕ) → length (packed n f) ≡ width n
 unfolding packed
 length-packed n f = length-upto (width n) (λ q. number (padded n f) (8 * q) 8)
+
+-- no spare bit is set exactly when each of them is 0
+pub spare-none : (bytes : List ℕ) (n at : ℕ) → ((i : ℕ) → n ≤ i → i < 8 * width n → bitOf bytes at i ≡ 0) → spare bytes n at ≡ false
+unfolding spare
+spare-none bytes n at z = rw (eq-eqb (number (bitOf bytes at) n (8 * width n - n)) 0 (number-zero (bitOf bytes at) n (8 * width n - n) (λ i l. z (n + i) (omega arith) (omega arith))))
+
+pub spare-zero : (bytes : List ℕ) (n at : ℕ) → spare bytes n at ≡ false → (i : ℕ) → n ≤ i → i < 8 * width n → bitOf bytes at i ≡ 0
+unfolding spare
+spare-zero bytes n at e i a b =
+    zero-digits (bitOf bytes at) n (8 * width n - n) (λ j k l. bit-le 8 bytes at j) (eqb-true _ _ (not-false _ e)) i a (omega arith)

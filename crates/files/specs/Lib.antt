@@ -10,3 +10,4 @@ pub mod Writing
 pub mod Weights
 pub mod Division
 pub mod Building
+pub mod RoundTrip

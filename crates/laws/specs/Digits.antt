@@ -37,6 +37,10 @@ pub number-none : (f : ℕ → ℕ) (c : ℕ) → number f c 0 ≡ 0
 unfolding number
 number-none f c = refl
 
+pub number-first : (f : ℕ → ℕ) (c k : ℕ) → number f c (suc k) ≡ f c * 2 ^ k + number f (suc c) k
+unfolding number
+number-first f c k = refl
+
 -- the digits may be counted from elsewhere
 pub number-shift : (f g : ℕ → ℕ) (c d k : ℕ) → ((i : ℕ) → i < k → f (c + i) ≡ g (d + i)) → number f c k ≡ number g d k
 unfolding number
@@ -132,3 +136,14 @@ module _ (f : ℕ → ℕ) (c : ℕ) where
   spelt-done k n x a b s =
       let e : k ≡ n = omega arith in
       subst (λ (j : ℕ). x ≡ number f c j) e (s .is)
+
+-- ---- digits that are all 0
+pub number-zero : (f : ℕ → ℕ) (c k : ℕ) → ((i : ℕ) → i < k → f (c + i) ≡ 0) → number f c k ≡ 0
+number-zero f c k e = number-shift f (λ i. 0) c c k e ∙ zeros c k
+  where
+    zeros : (c k : ℕ) → number (λ i. 0) c k ≡ 0
+    zeros c zero = number-none (λ i. 0) c
+    zeros c (suc k) = number-first (λ i. 0) c k ∙ omega (arith, zeros (suc c) k)
+
+pub zero-digits : (f : ℕ → ℕ) (c k : ℕ) → ((i : ℕ) → c ≤ i → i < c + k → f i ≤ 1) → number f c k ≡ 0 → (i : ℕ) → c ≤ i → i < c + k → f i ≡ 0
+zero-digits f c k ok e = digits-of f (λ i. 0) k c ok (λ i a b. omega arith) (e ∙ sym (number-zero (λ i. 0) c k (λ i l. refl)))

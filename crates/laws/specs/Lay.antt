@@ -7,7 +7,7 @@ use native.Mathlib.Nat.{add-assoc, add-zero, zero-add, mul-one, eq-or-lt-of-le, 
 use native.Mathlib.Numerals.{add-one}
 use native.Mathlib.Omega.{arith}
 use lib.ListN.{length, getD, set, take, drop, length-append, length-take, length-drop, length-set, List·getD-append}
-use lib.Seq.{take-all, take-at, drop-append-add, drop-drop, set-split, getD-append-add}
+use lib.Seq.{ext-getD, getD-take, length-take-le, take-all, take-at, drop-append-add, drop-drop, set-split, getD-append-add}
 
 module _ {A : Type 0} where
   -- f 0, then f 1, .., then f (n - 1), one after another
@@ -181,3 +181,21 @@ module _ {A : Type 0} (k : ℕ) where
 -- the part of a slice from k on
 pub rest-is : {A : Type 0} (k : ℕ) (xs : List A) → take (length xs - k) (drop k xs) ≡ drop k xs
 rest-is k xs = take-all (length xs - k) (drop k xs) (rw (length-drop k xs) (omega arith))
+
+-- two tables of m rows and w columns are equal if every place is
+pub table-ext : {A : Type 0} (d : A) (m w : ℕ) (xs ys : List A) → length xs ≡ m * w → length ys ≡ m * w →
+    ((v q : ℕ) → v < m → q < w → getD xs (v * w + q) d ≡ getD ys (v * w + q) d) → xs ≡ ys
+table-ext d m w xs ys lx ly each =
+    ext-getD d xs ys (lx ∙ sym ly)
+    (λ i h.
+    let l : i < m * w = omega (arith, h) in
+    let z : 0 < w = ⊎-elim (λ (e : w ≡ 0). absurd (omega (arith, ap (λ (x : ℕ). m * x) e))) (λ (l : 0 < w). l) (eq-zero-or-pos w) in
+    subst (λ (k : ℕ). getD xs k d ≡ getD ys k d) (div-add-mod' i w) (each (i / w) (i % w) (div-lt-iff-lt-mul z .1 l) (mod-lt i z)))
+
+-- the first n of a list, one by one
+pub take-is : {A : Type 0} (d : A) (n : ℕ) (xs : List A) → n ≤ length xs → take n xs ≡ upto n (λ i. getD xs i d)
+take-is d n xs h =
+    ext-getD d (take n xs) (upto n (λ i. getD xs i d)) (length-take-le n xs h ∙ sym (length-upto n (λ i. getD xs i d)))
+    (λ i l.
+    let k : i < n = omega (arith, length-take-le n xs h) in
+    getD-take n xs i d k ∙ sym (getD-upto n (λ i. getD xs i d) i d k))

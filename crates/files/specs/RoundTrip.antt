@@ -1,0 +1,251 @@
+-- Reading and writing are inverse: an accepted file written again is the same bytes, and a written matrix reads as itself. Assumes nothing.
+use Prim.Native.Nat.{ℕ, zero, suc, _+_, _-_, _*_, _/_, _%_, _^_, _≤_, _<_}
+use mathlib.Core.Path.{_≡_, refl, sym, ap, ap₂, _∙_, subst}
+use mathlib.Core.Bool.{Bool, true, false, not}
+use mathlib.Core.List.{List, [], _∷_, _++_}
+use native.Mathlib.Omega.{arith}
+use borrow.Author.Tests.{le-ltb, eq-eqb, eqb-false, ltb-false}
+use lib.Dec.{eqb, ltb}
+use lib.ListN.{length, getD, take, drop, length-drop, take-append-drop, List·getD-append}
+use lib.Seq.{getD-drop, getD-take, length-take-le, take-at}
+use Rattle.laws.specs.Sums.{any, any-all, any-false}
+use Rattle.laws.specs.Digits.{number, number-shift, number-digit, number-zero, zero-digits, digit, digit-number}
+use Rattle.laws.specs.Places.{lt-or-ge, row-end}
+use Rattle.laws.specs.Lay.{blocks, upto, lay, getD-blocks, length-blocks, blocks-each, getD-upto, length-upto, table-ext, take-is, length-lay}
+use Rattle.laws.specs.Outcome.{Outcome, gives, refuse, _>>_, _>>=_, passed, bound, gives-inj}
+use Rattle.files.specs.Fields.{fieldOf, fieldBytes, width, bitOf, packedBit, bit-le, padded, padded-le, padded-below, padded-above, padded-both, packed, length-packed, spare, spare-none, spare-zero}
+use Rattle.files.specs.Matrix.{Matrix, Sizes, sizes, Accepted, bit, total, outside, most-rows, most-columns}
+use Rattle.files.specs.Files.{fileLength, headerBytes, matrixFile, headerOf, bodyOf, matrixOf, readOf, writeOf, unpacked, Whole}
+use Rattle.files.specs.Checks.{inside, within, header-gives, header-fields, Read, matrix-read, unpacked-bit}
+use Rattle.files.specs.Weights.{sum, built, buildOf}
+use Rattle.files.specs.Building.{built-accepted}
+use Rattle.files.specs.declared.weights.Usage.{Usage}
+use Rattle.files.specs.Writing.{taken, cell, length-header, length-file, no-entry-above, write-gives}
+
+-- ---- packed rows, bit by bit
+-- bit i of packed row v: the row's bit below n, and 0 in the spare bits
+pub packed-bit : (n : ℕ) (f : ℕ → ℕ → ℕ) (m v i : ℕ) → ((c : ℕ) → c < n → f v c ≤ 1) → v < m → i < 8 * width n →
+    bitOf (blocks m (λ v. packed n (f v))) (v * width n) i ≡ padded n (f v) i
+unfolding packedBit packed
+packed-bit n f m v i ok h l =
+    let place : 8 * (i / 8) + i % 8 ≡ i = omega arith in
+    ap (λ (x : ℕ). digit 8 x (i % 8))
+    (getD-blocks (width n) (λ v. packed n (f v)) (λ v. length-packed n (f v)) m v (i / 8) 0 h (omega arith) ∙
+    getD-upto (width n) (λ q. number (padded n (f v)) (8 * q) 8) (i / 8) 0 (omega arith)) ∙
+    (digit-number (padded n (f v)) (8 * (i / 8)) 8 (i % 8) (λ j a b. padded-le n (f v) j ok) (omega arith) ∙ ap (padded n (f v)) place)
+
+-- ---- a written matrix reads as itself
+module _ (M : Matrix) (ok : Accepted M) where
+  rows : List ℕ
+  rows = blocks (M .rows) (λ v. packed (M .columns) (bit M v))
+
+  file-fields : (fieldOf (matrixFile M) 0 ≡ fileLength (M .rows) (M .columns)) × (fieldOf (matrixFile M) 2 ≡ 32) × (fieldOf (matrixFile M) 4 ≡ M .rows) × (fieldOf (matrixFile M) 6 ≡ M .columns)
+  unfolding fieldOf matrixFile headerBytes
+  file-fields = (omega arith, refl, omega arith, omega arith)
+
+  file-rest : drop 8 (matrixFile M) ≡ rows
+  unfolding matrixFile headerBytes rows
+  file-rest = refl
+
+  entry-le : (v c : ℕ) → v < M .rows → c < M .columns → bit M v c ≤ 1
+  unfolding bit
+  entry-le v c h l = ok .bits (v * M .columns + c) (cell v (M .rows) (M .columns) c h l)
+
+  row-bit : (v i : ℕ) → v < M .rows → i < 8 * width (M .columns) → bitOf rows (v * width (M .columns)) i ≡ padded (M .columns) (bit M v) i
+  unfolding rows
+  row-bit v i h l = packed-bit (M .columns) (bit M) (M .rows) v i (λ c k. entry-le v c h k) h l
+
+  no-spare : any (M .rows) (λ v. spare rows (M .columns) (v * width (M .columns))) ≡ false
+  no-spare = any-all (M .rows) (λ v. spare rows (M .columns) (v * width (M .columns))) (λ v h. one v h)
+    where
+      one : (v : ℕ) → v < M .rows → spare rows (M .columns) (v * width (M .columns)) ≡ false
+      one v h = spare-none rows (M .columns) (v * width (M .columns)) (λ i a b. row-bit v i h b ∙ sym (padded-above (M .columns) (bit M v) i a))
+
+  entries-same : blocks (M .rows) (λ v. upto (M .columns) (bitOf rows (v * width (M .columns)))) ≡ M .entries
+  unfolding bit unpacked
+  entries-same =
+      table-ext 0 (M .rows) (M .columns) (blocks (M .rows) (λ v. upto (M .columns) (bitOf rows (v * width (M .columns))))) (M .entries)
+      (length-blocks (M .columns) (λ v. upto (M .columns) (bitOf rows (v * width (M .columns))))
+      (λ v. length-upto (M .columns) (bitOf rows (v * width (M .columns)))) (M .rows))
+      (ok .whole)
+      (λ v c h l. unpacked-bit rows (sizes M) v c h l ∙ (row-bit v c h (omega arith) ∙ sym (padded-below (M .columns) (bit M v) c l)))
+
+  same : unpacked rows (sizes M) ≡ M
+  unfolding unpacked
+  same = ap (λ (e : List ℕ). record { rows = M .rows; columns = M .columns; entries = e }) entries-same
+
+  header-same : headerOf (matrixFile M) ≡ gives (sizes M)
+  header-same =
+      let f = file-fields in
+      sym (header-gives (matrixFile M) (fileLength (M .rows) (M .columns)) 32 (M .rows) (M .columns) (sym (f .0)) (sym (f .1)) (sym (f .2)) (sym (f .3))
+      (omega (arith, length-file M)) (omega (arith, length-file M)) refl (inside most-rows (M .rows) (ok .some-rows) (ok .few-rows))
+      (inside most-columns (M .columns) (ok .some-columns) (ok .few-columns)) refl (length-file M))
+
+  body-same : bodyOf (matrixFile M) (sizes M) ≡ gives M
+  unfolding bodyOf
+  body-same = rw (file-rest, no-spare, same, le-ltb (2 ^ M .columns) (total M) (ok .sum))
+
+  pub write-read : matrixOf (matrixFile M) ≡ gives M
+  unfolding matrixOf
+  write-read = rw header-same body-same
+
+-- ---- an accepted file written again is the same bytes
+-- what is read is an accepted matrix
+pub read-accepted : (file : List ℕ) (M : Matrix) → matrixOf file ≡ gives M → Accepted M
+unfolding unpacked
+read-accepted file M e =
+    let r = matrix-read file M e in
+    let w = r .whole in
+    let entries : M .entries ≡ blocks (M .rows) (λ v. upto (M .columns) (bitOf (drop 8 file) (v * width (M .columns)))) = ap (λ (X : Matrix). X .entries) (r .is) in
+    record {
+      some-rows = w .some-rows;
+      few-rows = w .few-rows;
+      some-columns = w .some-columns;
+      few-columns = w .few-columns;
+      whole =
+          rw entries
+          (length-blocks (M .columns) (λ v. upto (M .columns) (bitOf (drop 8 file) (v * width (M .columns))))
+          (λ v. length-upto (M .columns) (bitOf (drop 8 file) (v * width (M .columns)))) (M .rows));
+      bits =
+          rw entries
+          (blocks-each (M .columns) (λ v. upto (M .columns) (bitOf (drop 8 file) (v * width (M .columns))))
+          (λ v. length-upto (M .columns) (bitOf (drop 8 file) (v * width (M .columns)))) (λ (x : ℕ). x ≤ 1) (M .rows) 0
+          (λ v c h l. rw (getD-upto (M .columns) (bitOf (drop 8 file) (v * width (M .columns))) c 0 l) (bit-le 8 (drop 8 file) (v * width (M .columns)) c)));
+      sum = r .sum;
+    }
+
+same-bytes : (len m n b0 b1 b2 b3 b4 b5 b6 b7 : ℕ) → b0 < 256 → b2 < 256 → b4 < 256 → b6 < 256 → b0 + 256 * b1 ≡ len → b2 + 256 * b3 ≡ 32 →
+    b4 + 256 * b5 ≡ m → b6 + 256 * b7 ≡ n →
+    fieldBytes len ++ fieldBytes 32 ++ fieldBytes m ++ fieldBytes n ≡ b0 ∷ b1 ∷ b2 ∷ b3 ∷ b4 ∷ b5 ∷ b6 ∷ b7 ∷ []
+same-bytes len m n b0 b1 b2 b3 b4 b5 b6 b7 h0 h2 h4 h6 e0 e2 e4 e6 =
+    let q0 : len % 256 ≡ b0 = omega arith in
+    let q1 : len / 256 ≡ b1 = omega arith in
+    let q2 : b2 ≡ 32 = omega arith in
+    let q3 : b3 ≡ 0 = omega arith in
+    let q4 : m % 256 ≡ b4 = omega arith in
+    let q5 : m / 256 ≡ b5 = omega arith in
+    let q6 : n % 256 ≡ b6 = omega arith in
+    let q7 : n / 256 ≡ b7 = omega arith in
+    rw (q0, q1, q2, q3, q4, q5, q6, q7)
+
+module _ (file : List ℕ) (bytes : (i : ℕ) → getD file i 0 < 256) (M : Matrix) (e : matrixOf file ≡ gives M) where
+  r : Read file M
+  r = matrix-read file M e
+
+  header-back : headerBytes (M .rows) (M .columns) ≡ take 8 file
+  unfolding headerBytes fieldOf upto blocks
+  header-back =
+      let f = header-fields file (sizes M) (r .header) in
+      same-bytes (fileLength (M .rows) (M .columns)) (M .rows) (M .columns) (getD file 0 0) (getD file 1 0) (getD file 2 0) (getD file 3 0) (getD file 4 0) (getD file 5 0)
+      (getD file 6 0) (getD file 7 0) (bytes 0) (bytes 2) (bytes 4) (bytes 6) (f .0) (f .1) (f .2) (f .3) ∙
+      sym (take-is 0 8 file (omega (arith, r .whole .long)))
+
+  -- below n the bits are the matrix's, and the spare bits are 0
+  bit-back : (v i : ℕ) → v < M .rows → i < 8 * width (M .columns) → padded (M .columns) (bit M v) i ≡ bitOf (drop 8 file) (v * width (M .columns)) i
+  bit-back v i h l =
+      padded-both (λ (x : ℕ). x ≡ bitOf (drop 8 file) (v * width (M .columns)) i) (M .columns) (bit M v) i
+      (λ k. ap (λ (X : Matrix). bit X v i) (r .is) ∙ unpacked-bit (drop 8 file) (sizes M) v i h k)
+      (λ k. sym (spare-zero (drop 8 file) (M .columns) (v * width (M .columns)) (any-false (M .rows) v (λ v. spare (drop 8 file) (M .columns) (v * width (M .columns))) (r .no-spare) h) i k l))
+
+  place : (v q i : ℕ) → i < 8 → bitOf (drop 8 file) (v * width (M .columns)) (8 * q + i) ≡ digit 8 (getD (drop 8 file) (v * width (M .columns) + q) 0) (0 + i)
+  unfolding packedBit
+  place v q i k =
+      let a : (8 * q + i) / 8 ≡ q = omega arith in
+      let b : (8 * q + i) % 8 ≡ 0 + i = omega arith in
+      rw (a, b)
+
+  -- each byte of a row is the number of its eight bits
+  byte-back : (v q : ℕ) → v < M .rows → q < width (M .columns) →
+      number (padded (M .columns) (bit M v)) (8 * q) 8 ≡ getD (drop 8 file) (v * width (M .columns) + q) 0
+  byte-back v q h l =
+      let x : ℕ = getD (drop 8 file) (v * width (M .columns) + q) 0 in
+      number-shift (padded (M .columns) (bit M v)) (digit 8 (getD (drop 8 file) (v * width (M .columns) + q) 0)) (8 * q) 0 8
+      (λ i k. bit-back v (8 * q + i) h (omega arith) ∙ place v q i k) ∙
+      number-digit 8 (getD (drop 8 file) (v * width (M .columns) + q) 0)
+      (rw (getD-drop 8 file (v * width (M .columns) + q) 0) (bytes (8 + (v * width (M .columns) + q))))
+
+  rows-back : blocks (M .rows) (λ v. packed (M .columns) (bit M v)) ≡ drop 8 file
+  unfolding packed
+  rows-back =
+      table-ext 0 (M .rows) (width (M .columns)) (blocks (M .rows) (λ v. packed (M .columns) (bit M v))) (drop 8 file)
+      (length-blocks (width (M .columns)) (λ v. packed (M .columns) (bit M v)) (λ v. length-packed (M .columns) (bit M v)) (M .rows))
+      (rw (length-drop 8 file) (omega (arith, r .whole .long)))
+      (λ v q h l.
+      getD-blocks (width (M .columns)) (λ v. packed (M .columns) (bit M v)) (λ v. length-packed (M .columns) (bit M v)) (M .rows) v q 0 h l ∙
+      (getD-upto (width (M .columns)) (λ q. number (padded (M .columns) (bit M v)) (8 * q) 8) q 0 l ∙ byte-back v q h l))
+
+  pub read-write : matrixFile M ≡ file
+  unfolding matrixFile
+  read-write = rw (header-back, rows-back) (take-append-drop 8 file)
+
+-- ---- the operations together
+-- An accepted file, read into any buffer and written again from it, is the same bytes.
+again : (M : Matrix) (entries : List ℕ) → length (M .entries) ≡ M .rows * M .columns → taken (M .rows) (M .columns) (lay (M .entries) entries) ≡ M
+unfolding lay
+again M entries e =
+    ap (λ (l : List ℕ). record { rows = M .rows; columns = M .columns; entries = l })
+    (take-at (M .entries) (drop (length (M .entries)) entries) (M .rows * M .columns) e)
+
+getD-again : (M : Matrix) (entries : List ℕ) (i : ℕ) → i < length (M .entries) → getD (lay (M .entries) entries) i 0 ≡ getD (M .entries) i 0
+unfolding lay
+getD-again M entries i h = List·getD-append (M .entries) (drop (length (M .entries)) entries) 0 i h
+
+pub read-then-write : (file entries : List ℕ) (room : ℕ) (M : Matrix) → ((i : ℕ) → getD file i 0 < 256) → readOf file (length entries) ≡ gives M →
+    length file ≤ room → writeOf (M .rows) (M .columns) (lay (M .entries) entries) room ≡ gives file
+unfolding readOf
+read-then-write file entries room M bytes e h =
+    let b = bound (matrixOf file) (λ X. refuse 13 (ltb (length entries) (X .rows * X .columns)) >> gives X) M e in
+    let c = passed 13 (ltb (length entries) (b .0 .rows * b .0 .columns)) (gives (b .0)) M (b .2) in
+    written (b .1 ∙ c .1) (rw (gives-inj (c .1)) at (ltb-false (length entries) (b .0 .rows * b .0 .columns) (c .0)))
+  where
+    written : matrixOf file ≡ gives M → M .rows * M .columns ≤ length entries → writeOf (M .rows) (M .columns) (lay (M .entries) entries) room ≡ gives file
+    written g l =
+        let ok = read-accepted file M g in
+        let back = again M entries (ok .whole) in
+        let long : M .rows * M .columns ≤ length (lay (M .entries) entries) = rw (length-lay (M .entries) entries (omega (arith, ok .whole))) l in
+        let small : any (M .rows * M .columns) (λ i. ltb 1 (getD (lay (M .entries) entries) i 0)) ≡ false =
+        any-all (M .rows * M .columns) (λ i. ltb 1 (getD (lay (M .entries) entries) i 0))
+        (λ i k. le-ltb 1 (getD (lay (M .entries) entries) i 0) (rw (getD-again M entries i (omega (arith, ok .whole))) (ok .bits i k))) in
+        let sum : ltb (2 ^ M .columns) (total (taken (M .rows) (M .columns) (lay (M .entries) entries))) ≡ false = rw back (le-ltb (2 ^ M .columns) (total M) (ok .sum)) in
+        write-gives (M .rows) (M .columns) (lay (M .entries) entries) room (inside most-rows (M .rows) (ok .some-rows) (ok .few-rows))
+        (inside most-columns (M .columns) (ok .some-columns) (ok .few-columns)) long small sum (omega (arith, matrix-read file M g .whole .long)) ∙
+        ap gives (ap matrixFile back ∙ read-write file bytes M g)
+
+-- A written matrix reads as itself, with the same rows, columns and entries.
+pub write-then-read : (m n : ℕ) (entries file : List ℕ) (room : ℕ) → writeOf m n entries room ≡ gives file → matrixOf file ≡ gives (taken m n entries)
+unfolding writeOf
+write-then-read m n entries file room e =
+    let c1 = passed 3 (outside most-rows m) _ file e in
+    let c2 = passed 3 (outside most-columns n) _ file (c1 .1) in
+    let c3 = passed 13 (ltb (length entries) (m * n)) _ file (c2 .1) in
+    let c4 = passed 5 (any (m * n) (λ i. ltb 1 (getD entries i 0))) _ file (c3 .1) in
+    let c5 = passed 6 (ltb (2 ^ n) (total (taken m n entries))) _ file (c4 .1) in
+    let c6 = passed 13 (ltb room (fileLength m n)) _ file (c5 .1) in
+    let r = within most-rows m (c1 .0) in
+    let c = within most-columns n (c2 .0) in
+    let long = ltb-false (length entries) (m * n) (c3 .0) in
+    let ok : Accepted (taken m n entries) =
+    record {
+      some-rows = r .0;
+      few-rows = r .1;
+      some-columns = c .0;
+      few-columns = c .1;
+      whole = length-take-le (m * n) entries long;
+      bits = λ i l. rw (getD-take (m * n) entries i 0 l) (no-entry-above (m * n) entries (c4 .0) i l);
+      sum = ltb-false (2 ^ n) (total (taken m n entries)) (c5 .0);
+    } in
+    rw (← gives-inj (c6 .1)) (write-read (taken m n entries) ok)
+
+-- What is built is an accepted file that reads as the matrix of the shares.
+pub build-then-read : (usage : Usage) (weights : List ℕ) (n room : ℕ) (file : List ℕ) → buildOf usage weights n room ≡ gives file →
+    matrixOf file ≡ gives (built usage weights n)
+unfolding buildOf
+build-then-read usage weights n room file e =
+    let c1 = passed 3 (outside most-rows (length weights)) _ file e in
+    let c2 = passed 3 (outside most-columns n) _ file (c1 .1) in
+    let c3 = passed 11 (eqb (sum usage weights) 0) _ file (c2 .1) in
+    let c4 = passed 13 (ltb room (fileLength (length weights) n)) _ file (c3 .1) in
+    let r = within most-rows (length weights) (c1 .0) in
+    let c = within most-columns n (c2 .0) in
+    let z : 0 < sum usage weights = omega (arith, eqb-false (sum usage weights) 0 (c3 .0)) in
+    rw (← gives-inj (c4 .1)) (write-read (built usage weights n) (built-accepted usage weights n (r .0) (r .1) (c .0) (c .1) z))
