@@ -1,0 +1,117 @@
+-- 01, "Checked by hand": the cases that are proved, in one table, proved as a whole. Assumes nothing.
+use Prim.Native.Nat.{ℕ, zero, suc, _+_, _*_, _<_}
+use mathlib.Core.Path.{_≡_, refl, ap, ap₂}
+use mathlib.Core.Bool.{Bool, true, false, _&&_, not}
+use mathlib.Core.List.{List, [], _∷_}
+use native.Mathlib.Omega.{arith}
+use borrow.Author.Tests.{eqb-true}
+use lib.Dec.{eqb}
+use lib.ListN.{length}
+use Rattle.laws.specs.Sums.{sumTo, any}
+use Rattle.laws.specs.Digits.{number, digit}
+use Rattle.laws.specs.Lay.{blocks, upto}
+use Rattle.laws.specs.Outcome.{Outcome, refused, gives, mapped}
+use Rattle.files.specs.Fields.{fieldOf, packedBit, padded, packed, spare}
+use Rattle.files.specs.Matrix.{Matrix, bit, p, total}
+use Rattle.files.specs.Files.{fileLength, headerBytes, matrixFile, headerOf, unpacked, bodyOf, matrixOf, readOf, writeOf}
+use Rattle.files.specs.Weights.{sum, share, built, buildOf}
+use Rattle.files.specs.declared.weights.Usage.{Usage}
+use Rattle.files.specs.declared.weights.Usage.the-variants.{Plain, Signed}
+
+-- an operation on what it is given, with room enough for its result, and what it must come to
+pub data Case : Type 0 where
+  -- rows, columns and entries, and the file
+  writes : ℕ → ℕ → List ℕ → Outcome (List ℕ) → Case
+  -- a file, and its entries
+  reads : List ℕ → Outcome (List ℕ) → Case
+  -- weights and columns, and the entries of what is built
+  builds : Usage → List ℕ → ℕ → Outcome (List ℕ) → Case
+
+pub cases : List Case
+cases =
+    -- rows 10, 01, 01 are the file 0B 00 20 00 03 00 02 00 80 40 40
+    writes 3 2 (1 ∷ 0 ∷ 0 ∷ 1 ∷ 0 ∷ 1 ∷ []) (gives (0x0b ∷ 0 ∷ 0x20 ∷ 0 ∷ 3 ∷ 0 ∷ 2 ∷ 0 ∷ 0x80 ∷ 0x40 ∷ 0x40 ∷ []))
+    ∷ reads (0x0b ∷ 0 ∷ 0x20 ∷ 0 ∷ 3 ∷ 0 ∷ 2 ∷ 0 ∷ 0x80 ∷ 0x40 ∷ 0x40 ∷ []) (gives (1 ∷ 0 ∷ 0 ∷ 1 ∷ 0 ∷ 1 ∷ []))
+    -- rows 10, 10, 01: refusal 6
+    ∷ writes 3 2 (1 ∷ 0 ∷ 1 ∷ 0 ∷ 0 ∷ 1 ∷ []) (refused 6)
+    ∷ reads (0x0b ∷ 0 ∷ 0x20 ∷ 0 ∷ 3 ∷ 0 ∷ 2 ∷ 0 ∷ 0x80 ∷ 0x80 ∷ 0x40 ∷ []) (refused 6)
+    -- weights 1, 1, 1 with n = 2: rows 01, 01, 01
+    ∷ builds Plain (1 ∷ 1 ∷ 1 ∷ []) 2 (gives (0 ∷ 1 ∷ 0 ∷ 1 ∷ 0 ∷ 1 ∷ []))
+    -- weight 5 alone, n = 3: row 111
+    ∷ builds Plain (5 ∷ []) 3 (gives (1 ∷ 1 ∷ 1 ∷ []))
+    -- weights 0, 0: refusal 11
+    ∷ builds Plain (0 ∷ 0 ∷ []) 1 (refused 11)
+    ∷ []
+
+-- what the operation comes to
+pub comes : Case → Outcome (List ℕ)
+comes (writes m n entries o) = writeOf m n entries (fileLength m n)
+comes (reads file o) = mapped (λ M. M .entries) (readOf file 16384)
+comes (builds usage weights n o) = entriesOf (buildOf usage weights n (fileLength (length weights) n))
+  where
+    entriesOf : Outcome (List ℕ) → Outcome (List ℕ)
+    entriesOf (refused k) = refused k
+    entriesOf (gives file) = mapped (λ M. M .entries) (matrixOf file)
+
+pub must : Case → Outcome (List ℕ)
+must (writes m n entries o) = o
+must (reads file o) = o
+must (builds usage weights n o) = o
+
+-- ---- the test
+same : List ℕ → List ℕ → Bool
+same [] [] = true
+same [] (y ∷ ys) = false
+same (x ∷ xs) [] = false
+same (x ∷ xs) (y ∷ ys) = eqb x y && same xs ys
+
+agrees : Outcome (List ℕ) → Outcome (List ℕ) → Bool
+agrees (refused j) (refused k) = eqb j k
+agrees (refused j) (gives y) = false
+agrees (gives x) (refused k) = false
+agrees (gives x) (gives y) = same x y
+
+all-agree : List Case → Bool
+all-agree [] = true
+all-agree (c ∷ cs) = agrees (comes c) (must c) && all-agree cs
+
+-- ---- the test is right
+both : (a b : Bool) → (a && b) ≡ true → (a ≡ true) × (b ≡ true)
+both true b e = (refl, e)
+both false b e = absurd (let z : _≡_ {A = ℕ} 0 1 = cc in omega arith)
+
+never : {A : Type 0} → false ≡ true → A
+never e = absurd (let z : _≡_ {A = ℕ} 0 1 = cc in omega arith)
+
+same-is : (xs ys : List ℕ) → same xs ys ≡ true → xs ≡ ys
+unfolding same
+same-is [] [] e = refl
+same-is [] (y ∷ ys) e = never e
+same-is (x ∷ xs) [] e = never e
+same-is (x ∷ xs) (y ∷ ys) e =
+    let s = both (eqb x y) (same xs ys) e in
+    ap₂ (λ (a : ℕ) (l : List ℕ). a ∷ l) (eqb-true x y (s .0)) (same-is xs ys (s .1))
+
+agrees-is : (o q : Outcome (List ℕ)) → agrees o q ≡ true → o ≡ q
+unfolding agrees
+agrees-is (refused j) (refused k) e = ap refused (eqb-true j k e)
+agrees-is (refused j) (gives y) e = never e
+agrees-is (gives x) (refused k) e = never e
+agrees-is (gives x) (gives y) e = ap gives (same-is x y e)
+
+-- every case of a list comes to what it must
+pub All-come : List Case → Type 0
+All-come [] = Unit {0}
+All-come (c ∷ cs) = (comes c ≡ must c) × All-come cs
+
+all-come : (cs : List Case) → all-agree cs ≡ true → All-come cs
+unfolding all-agree All-come
+all-come [] e = tt
+all-come (c ∷ cs) e =
+    let s = both (agrees (comes c) (must c)) (all-agree cs) e in
+    (agrees-is (comes c) (must c) (s .0), all-come cs (s .1))
+
+-- ---- the table holds
+pub cases-hold : All-come cases
+unfolding cases comes must all-agree agrees same fieldOf packedBit padded packed spare bit p total headerBytes matrixFile headerOf unpacked bodyOf matrixOf readOf writeOf sum share built buildOf sumTo any number digit blocks upto
+cases-hold = all-come cases refl
