@@ -1,7 +1,7 @@
 -- 01, "Checked by hand": the cases that are proved, in one table, proved as a whole. Assumes nothing.
-use Prim.Native.Nat.{ℕ, zero, suc, _+_, _*_, _<_}
+use Prim.Native.Nat.{ℕ}
 use mathlib.Core.Path.{_≡_, refl, ap, ap₂}
-use mathlib.Core.Bool.{Bool, true, false, _&&_, not}
+use mathlib.Core.Bool.{Bool, true, false, _&&_}
 use mathlib.Core.List.{List, [], _∷_}
 use native.Mathlib.Omega.{arith}
 use borrow.Author.Tests.{eqb-true}
@@ -12,11 +12,11 @@ use Rattle.laws.specs.Digits.{number, digit}
 use Rattle.laws.specs.Lay.{blocks, upto}
 use Rattle.laws.specs.Outcome.{Outcome, refused, gives, mapped}
 use Rattle.files.specs.Fields.{fieldOf, packedBit, padded, packed, spare}
-use Rattle.files.specs.Matrix.{Matrix, bit, p, total}
+use Rattle.files.specs.Matrix.{bit, p, total}
 use Rattle.files.specs.Files.{fileLength, headerBytes, matrixFile, headerOf, unpacked, bodyOf, matrixOf, readOf, writeOf}
 use Rattle.files.specs.Weights.{sum, share, built, buildOf}
 use Rattle.files.specs.declared.weights.Usage.{Usage}
-use Rattle.files.specs.declared.weights.Usage.the-variants.{Plain, Signed}
+use Rattle.files.specs.declared.weights.Usage.the-variants.{Plain}
 
 -- an operation on what it is given, with room enough for its result, and what it must come to
 pub data Case : Type 0 where

@@ -1,22 +1,20 @@
 -- The ways through the checks of weights, and what is built: an accepted matrix whose rows are the shares. Assumes nothing.
-use Prim.Native.Nat.{ℕ, zero, suc, _+_, _-_, _*_, _/_, _^_, _≤_, _<_}
+use Prim.Native.Nat.{ℕ, _+_, _*_, _^_, _≤_, _<_}
 use mathlib.Core.Path.{_≡_, refl, sym, ap, _∙_}
-use mathlib.Core.Bool.{Bool, true, false}
+use mathlib.Core.Bool.{true, false}
 use mathlib.Core.List.{List}
 use native.Mathlib.Omega.{arith}
 use native.Mathlib.Nat.{le-of-mul-le-mul-right, mul-comm}
 use borrow.Author.Tests.{lt-ltb, le-ltb, eq-eqb, ne-eqb}
-use lib.Dec.{eqb, ltb}
 use lib.ListN.{length, getD}
 use Rattle.laws.specs.Sums.{sumTo, sum-eq, sum-mono, sum-times, term-le}
-use Rattle.laws.specs.Digits.{number, number-shift, number-digit, digit, digit-le}
-use Rattle.laws.specs.Lay.{blocks, upto, length-upto, getD-upto, length-blocks, getD-blocks, blocks-each}
-use Rattle.laws.specs.Outcome.{Outcome, refused, gives}
-use Rattle.files.specs.Matrix.{Matrix, Accepted, bit, p, total, outside, most-rows, most-columns}
+use Rattle.laws.specs.Digits.{number-shift, number-digit, digit, digit-le}
+use Rattle.laws.specs.Lay.{upto, length-upto, getD-upto, length-blocks, getD-blocks, blocks-each}
+use Rattle.laws.specs.Outcome.{refused, gives}
+use Rattle.files.specs.Matrix.{Accepted, bit, p, total, outside, most-rows, most-columns}
 use Rattle.files.specs.Files.{fileLength, matrixFile}
 use Rattle.files.specs.Weights.{counted, sum, share, built, buildOf, quotient}
-use Rattle.files.specs.Division.{Largest, share-largest, quotient-is}
-use Rattle.files.specs.Writing.{cell}
+use Rattle.files.specs.Division.{share-largest, quotient-is}
 use Rattle.files.specs.declared.weights.Usage.{Usage}
 
 -- ---- the checks

@@ -1,16 +1,16 @@
 -- The ways through the checks of a matrix file, and what passing them says. Assumes nothing.
-use Prim.Native.Nat.{ℕ, zero, suc, _+_, _-_, _*_, _/_, _^_, _≤_, _<_}
+use Prim.Native.Nat.{ℕ, _+_, _*_, _^_, _≤_, _<_}
 use mathlib.Core.Path.{_≡_, refl, sym, ap, _∙_, subst}
 use mathlib.Core.Bool.{Bool, true, false, not, _||_}
-use mathlib.Core.List.{List, [], _∷_, _++_}
+use mathlib.Core.List.{List}
 use native.Mathlib.Omega.{arith}
 use borrow.Author.Tests.{lt-ltb, le-ltb, eq-eqb, ne-eqb, ltb-false, leb-true, leb-false, eqb-true, not-false}
 use lib.Dec.{eqb, ltb, leb}
-use lib.ListN.{length, getD, drop, length-drop}
-use Rattle.laws.specs.Sums.{any, sumTo, sum-eq}
+use lib.ListN.{length, drop}
+use Rattle.laws.specs.Sums.{any, sum-eq}
 use Rattle.laws.specs.Digits.{number, number-shift}
-use Rattle.laws.specs.Lay.{blocks, upto, lay, layAt, lay-nothing, lay-is, getD-blocks, getD-upto, length-upto}
-use Rattle.laws.specs.Outcome.{Outcome, refused, gives, refuse, _>>_, _>>=_, passed, bound, mapped, laid, mapped-gives, mapped-refused, gives-inj}
+use Rattle.laws.specs.Lay.{upto, getD-blocks, getD-upto, length-upto}
+use Rattle.laws.specs.Outcome.{Outcome, refused, gives, refuse, _>>_, _>>=_, passed, bound, mapped, mapped-gives, mapped-refused, gives-inj}
 use Rattle.files.specs.Fields.{fieldOf, width, bitOf, packedBit, spare}
 use Rattle.files.specs.Matrix.{Matrix, Sizes, sizes, bit, p, total, outside, most-rows, most-columns}
 use Rattle.files.specs.Live.{total-from}

@@ -1,7 +1,7 @@
 -- Long division gives a row's number: the largest n-bit number not above 2^n × w / s, for every n. Assumes nothing.
 use Prim.Native.Nat.{ℕ, zero, suc, _+_, _-_, _*_, _/_, _^_, _≤_, _<_, min}
 use mathlib.Core.Path.{_≡_, refl, sym, ap, _∙_, subst}
-use mathlib.Core.Bool.{Bool, true, false, cond}
+use mathlib.Core.Bool.{Bool, true, false}
 use mathlib.Core.Logic.{⊎-elim}
 use native.Mathlib.Omega.{arith}
 use native.Mathlib.Nat.{pow-succ', add-zero, add-suc, eq-or-lt-of-le, le-trans, le-of-mul-le-mul-right, mul-le-mul-right, min-le-left, min-le-right, le-min, div-mul-le-self, le-div-iff-mul-le}
@@ -10,7 +10,7 @@ use borrow.Author.Tests.{le-leb, lt-leb, leb-true, leb-false}
 use lib.Arith.{digits-div}
 use lib.Dec.{leb}
 use lib.Pow.{pow-pos}
-use Rattle.laws.specs.Digits.{number, number-more, number-none, number-lt, number-shift, digit, digit-number}
+use Rattle.laws.specs.Digits.{number, number-more, number-lt, number-shift, digit, digit-number}
 use Rattle.files.specs.Fields.{padded, padded-below, padded-above, padded-both}
 use Rattle.files.specs.Weights.{share, next-rest, next-bit, rest-after, quotient, Stepped}
 

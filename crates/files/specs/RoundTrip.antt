@@ -1,26 +1,25 @@
 -- Reading and writing are inverse: an accepted file written again is the same bytes, and a written matrix reads as itself. Assumes nothing.
-use Prim.Native.Nat.{ℕ, zero, suc, _+_, _-_, _*_, _/_, _%_, _^_, _≤_, _<_}
-use mathlib.Core.Path.{_≡_, refl, sym, ap, ap₂, _∙_, subst}
-use mathlib.Core.Bool.{Bool, true, false, not}
+use Prim.Native.Nat.{ℕ, _+_, _*_, _/_, _%_, _^_, _≤_, _<_}
+use mathlib.Core.Path.{_≡_, refl, sym, ap, _∙_}
+use mathlib.Core.Bool.{false}
 use mathlib.Core.List.{List, [], _∷_, _++_}
 use native.Mathlib.Omega.{arith}
-use borrow.Author.Tests.{le-ltb, eq-eqb, eqb-false, ltb-false}
+use borrow.Author.Tests.{le-ltb, eqb-false, ltb-false}
 use lib.Dec.{eqb, ltb}
 use lib.ListN.{length, getD, take, drop, length-drop, take-append-drop, List·getD-append}
 use lib.Seq.{getD-drop, getD-take, length-take-le, take-at}
 use Rattle.laws.specs.Sums.{any, any-all, any-false}
-use Rattle.laws.specs.Digits.{number, number-shift, number-digit, number-zero, zero-digits, digit, digit-number}
-use Rattle.laws.specs.Places.{lt-or-ge, row-end}
+use Rattle.laws.specs.Digits.{number, number-shift, number-digit, digit, digit-number}
 use Rattle.laws.specs.Lay.{blocks, upto, lay, getD-blocks, length-blocks, blocks-each, getD-upto, length-upto, table-ext, take-is, length-lay}
-use Rattle.laws.specs.Outcome.{Outcome, gives, refuse, _>>_, _>>=_, passed, bound, gives-inj}
+use Rattle.laws.specs.Outcome.{gives, refuse, _>>_, _>>=_, passed, bound, gives-inj}
 use Rattle.files.specs.Fields.{fieldOf, fieldBytes, width, bitOf, packedBit, bit-le, padded, padded-le, padded-below, padded-above, padded-both, packed, length-packed, spare, spare-none, spare-zero}
-use Rattle.files.specs.Matrix.{Matrix, Sizes, sizes, Accepted, bit, total, outside, most-rows, most-columns}
-use Rattle.files.specs.Files.{fileLength, headerBytes, matrixFile, headerOf, bodyOf, matrixOf, readOf, writeOf, unpacked, Whole}
+use Rattle.files.specs.Matrix.{Matrix, sizes, Accepted, bit, total, outside, most-rows, most-columns}
+use Rattle.files.specs.Files.{fileLength, headerBytes, matrixFile, headerOf, bodyOf, matrixOf, readOf, writeOf, unpacked}
 use Rattle.files.specs.Checks.{inside, within, header-gives, header-fields, Read, matrix-read, unpacked-bit}
 use Rattle.files.specs.Weights.{sum, built, buildOf}
 use Rattle.files.specs.Building.{built-accepted}
 use Rattle.files.specs.declared.weights.Usage.{Usage}
-use Rattle.files.specs.Writing.{taken, cell, length-header, length-file, no-entry-above, write-gives}
+use Rattle.files.specs.Writing.{taken, cell, length-file, no-entry-above, write-gives}
 
 -- ---- packed rows, bit by bit
 -- bit i of packed row v: the row's bit below n, and 0 in the spare bits

@@ -1,14 +1,14 @@
 -- 01, "Matrix and walk", "Weights": the matrix of a list of weights, and the long division that finds it. Assumes nothing.
-use Prim.Native.Nat.{ℕ, zero, suc, _+_, _-_, _*_, _/_, _^_, _≤_, _<_, min}
+use Prim.Native.Nat.{ℕ, zero, suc, _-_, _*_, _/_, _^_, _≤_, min}
 use mathlib.Core.Path.{_≡_}
-use mathlib.Core.Bool.{Bool, cond}
+use mathlib.Core.Bool.{cond}
 use mathlib.Core.List.{List}
 use lib.Dec.{eqb, leb, ltb}
 use lib.ListN.{length, getD}
 use Rattle.laws.specs.Sums.{sumTo}
 use Rattle.laws.specs.Digits.{number, digit}
 use Rattle.laws.specs.Lay.{blocks, upto}
-use Rattle.laws.specs.Outcome.{Outcome, refused, gives, refuse, _>>_}
+use Rattle.laws.specs.Outcome.{Outcome, gives, refuse, _>>_}
 use Rattle.files.specs.Fields.{padded}
 use Rattle.files.specs.Matrix.{Matrix, outside, most-rows, most-columns}
 use Rattle.files.specs.Files.{matrixFile, fileLength}

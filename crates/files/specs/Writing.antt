@@ -1,19 +1,18 @@
 -- The ways through the checks of a matrix that is written, and what is laid down. Assumes nothing.
-use Prim.Native.Nat.{ℕ, zero, suc, _+_, _-_, _*_, _/_, _%_, _^_, _≤_, _<_}
+use Prim.Native.Nat.{ℕ, _+_, _-_, _*_, _/_, _%_, _^_, _≤_, _<_}
 use mathlib.Core.Path.{_≡_, refl, sym, ap, _∙_}
 use mathlib.Core.Bool.{Bool, true, false, not}
-use mathlib.Core.List.{List, [], _∷_, _++_}
+use mathlib.Core.List.{List, _++_}
 use native.Mathlib.Omega.{arith}
-use native.Mathlib.Nat.{zero-sub}
 use borrow.Author.Tests.{lt-ltb, le-ltb, ltb-false}
 use lib.Dec.{ltb, leb}
-use lib.ListN.{length, getD, take, length-take, length-append}
+use lib.ListN.{length, getD, take, length-append}
 use lib.Seq.{getD-take}
 use Rattle.laws.specs.Sums.{any, any-false}
 use Rattle.laws.specs.Digits.{digit}
 use Rattle.laws.specs.Places.{row-end}
 use Rattle.laws.specs.Lay.{blocks, blocks-eq, lay, layAt, layAt-after, lay-is, length-blocks}
-use Rattle.laws.specs.Outcome.{Outcome, refused, gives}
+use Rattle.laws.specs.Outcome.{refused, gives}
 use Rattle.files.specs.Fields.{fieldBytes, packedBit, packed, packed-eq, width, length-packed}
 use Rattle.files.specs.Matrix.{Matrix, bit, total, outside, most-rows, most-columns}
 use Rattle.files.specs.Live.{total-from}

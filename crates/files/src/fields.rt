@@ -1,7 +1,6 @@
 // What records are made of: 16-bit fields and packed bits (01, "Files").
 ghost use mathlib.Core.Path.{_≡_};
-ghost use mathlib.Core.List.{_∷_, []};
-ghost use Prim.Native.Nat.{_+_, _*_, _/_, _%_, _-_, _^_, _≤_, _<_};
+ghost use Prim.Native.Nat.{_+_, _*_, _/_, _%_, _-_, _≤_, _<_};
 ghost use lib.ListN.{length, getD};
 ghost use Rattle.laws.specs.Lay.{layAt};
 ghost use Rattle.files.specs.Fields.{bitOf, fieldBytes, fieldOf, spare, width};

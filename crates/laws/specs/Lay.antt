@@ -3,10 +3,10 @@ use Prim.Native.Nat.{ℕ, zero, suc, _+_, _-_, _*_, _/_, _%_, _≤_, _<_}
 use mathlib.Core.Path.{_≡_, refl, sym, ap, _∙_, subst}
 use mathlib.Core.List.{List, [], _∷_, _++_, append-assoc}
 use mathlib.Core.Logic.{⊎-elim}
-use native.Mathlib.Nat.{add-assoc, add-zero, zero-add, mul-one, eq-or-lt-of-le, le-of-suc-le-suc, mul-le-mul-right, eq-zero-or-pos, div-lt-iff-lt-mul, div-add-mod', mod-lt}
+use native.Mathlib.Nat.{add-zero, zero-add, mul-one, eq-or-lt-of-le, le-of-suc-le-suc, mul-le-mul-right, eq-zero-or-pos, div-lt-iff-lt-mul, div-add-mod', mod-lt}
 use native.Mathlib.Numerals.{add-one}
 use native.Mathlib.Omega.{arith}
-use lib.ListN.{length, getD, set, take, drop, length-append, length-take, length-drop, length-set, List·getD-append}
+use lib.ListN.{length, getD, set, take, drop, length-append, length-take, length-drop, List·getD-append}
 use lib.Seq.{ext-getD, getD-take, length-take-le, take-all, take-at, drop-append-add, drop-drop, set-split, getD-append-add}
 
 module _ {A : Type 0} where

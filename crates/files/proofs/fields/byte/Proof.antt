@@ -1,7 +1,7 @@
 -- `files::byte` meets its contract. Assumes nothing.
 use borrow.Author.Needs.{needs}
 use native.Mathlib.Omega.{arith}
-use mathlib.Core.Path.{_≡_, refl, sym}
+use mathlib.Core.Path.{sym}
 use lib.ListN.{List·getD-eq-default}
 use Rattle.files.proofs.fields.byte.Statement.{statement}
 use Rattle.files.proofs.fields.byte.Tie as tie

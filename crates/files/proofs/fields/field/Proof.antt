@@ -1,7 +1,6 @@
 -- `files::field` meets its contract. Assumes nothing.
 use borrow.Author.Needs.{needs}
 use native.Mathlib.Omega.{arith}
-use mathlib.Core.Path.{_≡_, ap}
 use Rattle.files.specs.Fields.{fieldOf, field-beyond}
 use Rattle.files.proofs.fields.field.Statement.{statement}
 use Rattle.files.proofs.fields.field.Tie as tie

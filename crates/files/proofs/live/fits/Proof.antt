@@ -1,8 +1,8 @@
 -- `files::fits` meets its contract: what is left from column c on, with h places open, comes to what the whole does. Assumes nothing.
 use borrow.Author.Needs.{needs}
 use native.Mathlib.Omega.{arith}
-use mathlib.Core.Path.{_≡_, refl, sym, _∙_, ap}
-use Prim.Native.Nat.{ℕ, _+_, _-_, _*_, _/_, _%_, _≤_, _<_}
+use mathlib.Core.Path.{_∙_}
+use Prim.Native.Nat.{_-_, _*_, _≤_}
 use native.Mathlib.Nat.{mod-lt}
 use Rattle.files.specs.Fields.{packedBit, bit-le}
 use Rattle.files.specs.Live.{Open, live, live-is, open-first, open-full, open-next, open-done, strided-weight}

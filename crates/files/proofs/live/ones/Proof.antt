@@ -2,10 +2,10 @@
 use borrow.Author.Needs.{needs}
 use native.Mathlib.Omega.{arith}
 use mathlib.Core.Path.{_≡_}
-use Prim.Native.Nat.{ℕ, _+_, _-_, _*_, _/_, _%_, _≤_, _<_}
-use Rattle.laws.specs.Sums.{sumTo, sum-turn, sum-done, sum-le}
+use Prim.Native.Nat.{_-_, _≤_}
+use Rattle.laws.specs.Sums.{sumTo, sum-turn, sum-done}
 use Rattle.laws.specs.Digits.{and-one}
-use Rattle.files.specs.Live.{strided, strided-read, strided-le}
+use Rattle.files.specs.Live.{strided, strided-read}
 use Rattle.files.proofs.live.ones.Statement.{statement}
 use Rattle.files.proofs.live.ones.Tie as tie
 

@@ -1,7 +1,7 @@
 -- `files::check_strings` meets its contract: each return is a way through the checks. Assumes nothing.
 use borrow.Author.Needs.{needs}
 use native.Mathlib.Omega.{arith}
-use mathlib.Core.Path.{_≡_, refl, sym, _∙_, ap}
+use mathlib.Core.Path.{sym, _∙_}
 use Rattle.files.specs.Matrix.{most-columns}
 use Rattle.files.specs.Checks.{inside, below, above}
 use Rattle.files.specs.Strings.{strings-size, strings-room, strings-short, strings-spare, strings-sound}

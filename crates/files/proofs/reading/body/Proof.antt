@@ -1,8 +1,8 @@
 -- `files::body` meets its contract: each return is a way through the checks. Assumes nothing.
 use borrow.Author.Needs.{needs}
 use native.Mathlib.Omega.{arith}
-use mathlib.Core.Path.{_≡_, refl, sym, _∙_, ap}
-use Prim.Native.Nat.{ℕ, _+_, _-_, _*_, _/_, _%_, _≤_, _<_}
+use mathlib.Core.Path.{sym, _∙_}
+use Prim.Native.Nat.{_-_}
 use lib.ListN.{length, length-drop}
 use Rattle.laws.specs.Places.{row-end}
 use Rattle.laws.specs.Lay.{rest-is}

@@ -1,6 +1,6 @@
 -- `files::check` meets its contract: the header's checks, then those of the rows. Assumes nothing.
 use borrow.Author.Needs.{needs}
-use mathlib.Core.Path.{_≡_, refl, sym, _∙_, ap}
+use mathlib.Core.Path.{sym}
 use Rattle.files.specs.Checks.{header-whole, file-refused, file-body}
 use Rattle.files.proofs.reading.check.Statement.{statement}
 use Rattle.files.proofs.reading.check.Tie as tie

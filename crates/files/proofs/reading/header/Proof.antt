@@ -1,7 +1,7 @@
 -- `files::header` meets its contract: each return is a way through the checks. Assumes nothing.
 use borrow.Author.Needs.{needs}
 use native.Mathlib.Omega.{arith}
-use mathlib.Core.Path.{_≡_, refl, sym, _∙_, ap}
+use mathlib.Core.Path.{refl}
 use native.Mathlib.Nat.{mul-le-mul}
 use Rattle.files.specs.Checks.{inside, below, above, header-short, header-cut, header-kind, header-rows, header-columns, header-length, header-left, header-gives}
 use Rattle.files.specs.Matrix.{most-rows, most-columns}

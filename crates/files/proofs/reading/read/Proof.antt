@@ -1,7 +1,7 @@
 -- `files::read` meets its contract: the file's checks, then the buffer's, then the entries are laid. Assumes nothing.
 use borrow.Author.Needs.{needs}
 use native.Mathlib.Omega.{arith}
-use mathlib.Core.Path.{_≡_, refl, sym, _∙_, ap}
+use mathlib.Core.Path.{refl, _∙_}
 use native.Mathlib.Nat.{mul-le-mul}
 use Rattle.laws.specs.Lay.{rest-is, lay-is}
 use Rattle.laws.specs.Outcome.{ends-refused, ends-given}

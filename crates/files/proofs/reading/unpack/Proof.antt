@@ -1,8 +1,8 @@
 -- `files::unpack` meets its contract: v rows are laid. Assumes nothing.
 use borrow.Author.Needs.{needs}
 use native.Mathlib.Omega.{arith}
-use mathlib.Core.Path.{_≡_, refl, sym, _∙_, ap}
-use Prim.Native.Nat.{ℕ, _+_, _-_, _*_, _/_, _%_, _≤_, _<_}
+use mathlib.Core.Path.{_≡_, refl}
+use Prim.Native.Nat.{_-_, _*_, _≤_}
 use native.Mathlib.Nat.{mul-le-mul}
 use Rattle.laws.specs.Places.{row-end}
 use Rattle.laws.specs.Lay.{Laid, blocks, upto, blocks-none, laid-block, blocks-done, length-upto}

@@ -1,8 +1,7 @@
 -- `files::unpack_row` meets its contract: c entries are laid. Assumes nothing.
 use borrow.Author.Needs.{needs}
-use native.Mathlib.Omega.{arith}
-use mathlib.Core.Path.{_≡_, refl, sym, _∙_, ap}
-use Prim.Native.Nat.{ℕ, _+_, _-_, _*_, _≤_, _<_}
+use mathlib.Core.Path.{refl}
+use Prim.Native.Nat.{_-_, _≤_}
 use Rattle.laws.specs.Lay.{Laid, upto, upto-none, laid-store, upto-done}
 use Rattle.files.specs.Fields.{bitOf}
 use Rattle.files.proofs.reading.unpack_row.Statement.{statement}

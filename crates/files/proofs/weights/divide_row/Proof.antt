@@ -1,8 +1,7 @@
 -- `files::divide_row` meets its contract: q bytes are laid, and what is left is what 8 × q steps leave. Assumes nothing.
 use borrow.Author.Needs.{needs}
-use native.Mathlib.Omega.{arith}
-use mathlib.Core.Path.{_≡_, refl, sym, _∙_, ap}
-use Prim.Native.Nat.{ℕ, _+_, _-_, _*_, _/_, _%_, _≤_, _<_}
+use mathlib.Core.Path.{_≡_, refl, _∙_}
+use Prim.Native.Nat.{_-_, _*_, _≤_}
 use Rattle.laws.specs.Lay.{Laid, upto, upto-none, laid-store, upto-done}
 use Rattle.laws.specs.Digits.{number}
 use Rattle.files.specs.Fields.{padded, packed, width}

@@ -1,5 +1,4 @@
 -- `files::kept` meets its contract. Assumes nothing.
-use borrow.Author.Needs.{needs}
 use Rattle.files.specs.Fields.{padded-below, padded-above}
 use Rattle.files.proofs.weights.kept.Statement.{statement}
 use Rattle.files.proofs.weights.kept.Tie as tie

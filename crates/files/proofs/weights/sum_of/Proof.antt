@@ -1,8 +1,8 @@
 -- `files::sum_of` meets its contract: the sum so far is that of the weights passed. Assumes nothing.
 use borrow.Author.Needs.{needs}
 use native.Mathlib.Omega.{arith}
-use mathlib.Core.Path.{_≡_, refl, sym, _∙_, ap}
-use Prim.Native.Nat.{ℕ, _+_, _-_, _*_, _/_, _%_, _≤_, _<_}
+use mathlib.Core.Path.{_≡_}
+use Prim.Native.Nat.{_-_, _*_, _≤_}
 use lib.ListN.{length, getD}
 use Rattle.laws.specs.Sums.{sumTo, sum-turn, sum-done}
 use Rattle.files.specs.Weights.{counted, sum}

@@ -1,8 +1,7 @@
 -- `files::pack_byte` meets its contract: the byte so far is the number of the entries read. Assumes nothing.
 use borrow.Author.Needs.{needs}
 use native.Mathlib.Omega.{arith}
-use mathlib.Core.Path.{_≡_, refl, sym, _∙_, ap}
-use Prim.Native.Nat.{ℕ, _+_, _-_, _*_, _/_, _%_, _≤_, _<_}
+use Prim.Native.Nat.{_+_, _-_, _*_, _≤_}
 use lib.ListN.{getD}
 use Rattle.laws.specs.Digits.{Spelt, spelt-none, spelt-more, spelt-room, spelt-done}
 use Rattle.files.specs.Fields.{padded, padded-le}

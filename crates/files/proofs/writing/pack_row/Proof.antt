@@ -1,8 +1,7 @@
 -- `files::pack_row` meets its contract: q bytes are laid. Assumes nothing.
 use borrow.Author.Needs.{needs}
-use native.Mathlib.Omega.{arith}
-use mathlib.Core.Path.{_≡_, refl, sym, _∙_, ap}
-use Prim.Native.Nat.{ℕ, _+_, _-_, _*_, _/_, _%_, _≤_, _<_}
+use mathlib.Core.Path.{_≡_, refl}
+use Prim.Native.Nat.{_+_, _-_, _*_, _≤_}
 use lib.ListN.{getD}
 use Rattle.laws.specs.Digits.{number}
 use Rattle.laws.specs.Lay.{Laid, upto, upto-none, laid-store, upto-done}

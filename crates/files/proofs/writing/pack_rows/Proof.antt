@@ -1,9 +1,8 @@
 -- `files::pack_rows` meets its contract: v rows are laid. Assumes nothing.
 use borrow.Author.Needs.{needs}
 use native.Mathlib.Omega.{arith}
-use mathlib.Core.Path.{_≡_, refl, sym, _∙_, ap}
-use Prim.Native.Nat.{ℕ, _+_, _-_, _*_, _/_, _%_, _≤_, _<_}
-use native.Mathlib.Nat.{mul-le-mul}
+use mathlib.Core.Path.{_≡_, refl, ap}
+use Prim.Native.Nat.{ℕ, _+_, _-_, _*_, _≤_}
 use Rattle.laws.specs.Places.{row-end}
 use lib.ListN.{length, getD}
 use Rattle.laws.specs.Lay.{Laid, blocks, blocks-none, laid-block, blocks-done}

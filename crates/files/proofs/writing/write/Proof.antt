@@ -1,11 +1,10 @@
 -- `files::write` meets its contract: each return is a way through the checks, and the last lays header and rows. Assumes nothing.
 use borrow.Author.Needs.{needs}
 use native.Mathlib.Omega.{arith}
-use mathlib.Core.Path.{_≡_, refl, sym, _∙_, ap}
-use Prim.Native.Nat.{ℕ, _+_, _-_, _*_, _/_, _%_, _≤_, _<_}
+use mathlib.Core.Path.{sym, _∙_, ap}
+use Prim.Native.Nat.{ℕ, _+_, _*_}
 use native.Mathlib.Nat.{mul-le-mul}
 use Rattle.laws.specs.Outcome.{ends-refused, ends-given}
-use Rattle.files.specs.Fields.{width}
 use Rattle.files.specs.Matrix.{most-rows, most-columns}
 use Rattle.files.specs.Checks.{inside, below, above}
 use Rattle.files.specs.Writing.{write-rows, write-columns, write-short, write-bit, write-sum, write-full, write-gives, entries-sum, no-entry-above, cell, taken, taken-bit, length-file, file-laid}
