@@ -3,4 +3,5 @@ pub mod Sums
 pub mod Digits
 pub mod Places
 pub mod Lay
+pub mod From
 pub mod Outcome

@@ -1,0 +1,124 @@
+-- `walk::draw` meets its contract: before each column and each row, what is left of the walk is what the whole draws. Assumes nothing.
+use borrow.Author.Needs.{needs}
+use native.Mathlib.Omega.{arith}
+use native.Mathlib.Nat.{mul-le-mul}
+use mathlib.Core.Path.{_≡_, ap, _∙_}
+use Prim.Native.Nat.{_+_, _-_, _*_, _≤_, _<_}
+use Rattle.laws.specs.Lay.{upto}
+use Rattle.files.specs.Fields.{bitOf}
+use Rattle.files.specs.Fields as F
+use Rattle.walk.specs.declared.Drawn.the-variants as Drawn
+use Rattle.walk.specs.Walk as W
+use Rattle.walk.specs.Turns.{Left, Within, start, into, pass, strike, near, after, lost, over}
+use Rattle.walk.proofs.draw.Statement.{statement}
+use Rattle.walk.proofs.draw.Tie as tie
+
+abbrev Inv-loop : tie.InvT-loop
+Inv-loop rows m n string width d₀ drawn₀ c v₀ d drawn v =
+    (drawn ≡ Drawn.Miss) × (width ≡ F.width n) × (v ≤ m) × (d ≤ 2 * m + 1) × (c < n) × Within (λ v. bitOf rows (v * F.width n)) (bitOf string 0) m n (W.walk (λ v. bitOf rows (v * F.width n)) m 0 0 (upto n (bitOf string 0))) c v d
+
+abbrev μ-loop : tie.MeasureT-loop
+μ-loop rows m n string width d₀ drawn₀ c v₀ d drawn v = v
+
+abbrev Inv-walk : tie.InvT-walk
+Inv-walk rows m n string width d₀ drawn₀ c₀ d drawn c =
+    (drawn ≡ Drawn.Miss) × (width ≡ F.width n) × (c ≤ n) × (d ≤ m) × Left (λ v. bitOf rows (v * F.width n)) (bitOf string 0) m n (W.walk (λ v. bitOf rows (v * F.width n)) m 0 0 (upto n (bitOf string 0))) c d
+
+abbrev μ-walk : tie.MeasureT-walk
+μ-walk rows m n string width d₀ drawn₀ c₀ d drawn c = n - c
+
+add-width : tie.Need-add-width Inv-loop μ-loop Inv-walk μ-walk
+add-width c = search needs
+
+walk-holds : tie.Need-walk-holds Inv-loop μ-loop Inv-walk μ-walk
+walk-holds c = (search needs, search needs, search needs, search needs, start _ _ _ _)
+
+mul-d : tie.Need-mul-d Inv-loop μ-loop Inv-walk μ-walk
+mul-d c = search needs
+
+bit-requires : tie.Need-bit-requires Inv-loop μ-loop Inv-walk μ-walk
+bit-requires c κs = search needs
+
+cast-d : tie.Need-cast-d Inv-loop μ-loop Inv-walk μ-walk
+cast-d c = search needs
+
+add-d : tie.Need-add-d Inv-loop μ-loop Inv-walk μ-walk
+add-d c = search needs
+
+loop-holds : tie.Need-loop-holds Inv-loop μ-loop Inv-walk μ-walk
+loop-holds c = (search needs, search needs, search needs, search needs, search needs, into _ _ _ _ _ _ _ _ (search needs) (c .bit .ensures .0) (c .before .before .walk .inv .4))
+
+sub-v : tie.Need-sub-v Inv-loop μ-loop Inv-walk μ-walk
+sub-v c = search needs
+
+mul-bit : tie.Need-mul-bit Inv-loop μ-loop Inv-walk μ-walk
+mul-bit c =
+    let few : c .before .loop .v - 1 ≤ 65535 = search needs in
+    let narrow : F.width (c .before .before .before .before .before .before .before .args .n) ≤ 8192 = search needs in
+    record { fits = omega (arith, mul-le-mul few narrow) }
+
+bit-requires-2 : tie.Need-bit-requires-2 Inv-loop μ-loop Inv-walk μ-walk
+bit-requires-2 c κs = search needs
+
+sub-d : tie.Need-sub-d Inv-loop μ-loop Inv-walk μ-walk
+sub-d c = search needs
+
+loop-less : tie.Need-loop-less Inv-loop μ-loop Inv-walk μ-walk
+loop-less c = search needs
+
+loop-again : tie.Need-loop-again Inv-loop μ-loop Inv-walk μ-walk
+loop-again c = (search needs, search needs, search needs, search needs, search needs, near _ _ _ _ _ _ _ _ _ (c .before .before .before .loop-test .taken) (rw (c .before .before .before .before .loop .inv .1) at (c .before .before .bit2 .ensures .0)) (c .before .if1 .taken) (c .if2 .left) (c .before .before .before .before .loop .inv .5))
+
+loop-less-2 : tie.Need-loop-less-2 Inv-loop μ-loop Inv-walk μ-walk
+loop-less-2 c = search needs
+
+loop-again-2 : tie.Need-loop-again-2 Inv-loop μ-loop Inv-walk μ-walk
+loop-again-2 c = (search needs, search needs, search needs, search needs, search needs, pass _ _ _ _ _ _ _ _ _ (c .before .before .loop-test .taken) (rw (c .before .before .before .loop .inv .1) at (c .before .bit2 .ensures .0)) (c .before .bit2 .ensures .1) (c .if1 .left) (c .before .before .before .loop .inv .5))
+
+add-c : tie.Need-add-c Inv-loop μ-loop Inv-walk μ-walk
+add-c c = search needs
+
+walk-less : tie.Need-walk-less Inv-loop μ-loop Inv-walk μ-walk
+walk-less c = search needs
+
+walk-again : tie.Need-walk-again Inv-loop μ-loop Inv-walk μ-walk
+walk-again c = (search needs, search needs, search needs, search needs, after _ _ _ _ _ _ _ _ (c .before .loop-test .left) (c .before .before .loop .inv .5))
+
+returns : tie.Need-returns Inv-loop μ-loop Inv-walk μ-walk
+returns c = ap W.drawnOf (c .before .walk .inv .0) ∙ over _ _ _ _ _ _ _ (search needs) (c .before .walk .inv .4)
+
+returns-2 : tie.Need-returns-2 Inv-loop μ-loop Inv-walk μ-walk
+returns-2 c = strike _ _ _ _ _ _ _ _ _ (c .before .before .before .loop-test .taken) (rw (c .before .before .before .before .loop .inv .1) at (c .before .before .bit2 .ensures .0)) (c .before .if1 .taken) (c .if2 .taken) (c .before .before .before .before .loop .inv .5)
+
+returns-3 : tie.Need-returns-3 Inv-loop μ-loop Inv-walk μ-walk
+returns-3 c = ap W.drawnOf (c .before .before .loop .inv .0) ∙ lost _ _ _ _ _ _ _ _ (c .before .loop-test .left) (c .if3 .taken) (c .before .before .loop .inv .5)
+
+pub draw-spec : {M : Type 1} → statement M
+draw-spec =
+    tie.close
+    (tie.spec
+    Inv-loop
+    μ-loop
+    Inv-walk
+    μ-walk
+    add-width
+    walk-holds
+    mul-d
+    bit-requires
+    cast-d
+    add-d
+    loop-holds
+    sub-v
+    mul-bit
+    bit-requires-2
+    sub-d
+    loop-less
+    loop-again
+    loop-less-2
+    loop-again-2
+    add-c
+    walk-less
+    walk-again
+    returns
+    returns-2
+    returns-3)

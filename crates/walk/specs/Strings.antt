@@ -1,0 +1,157 @@
+-- The strings of n bits, each exactly once, and how many of them pass a test. Assumes nothing.
+use Prim.Native.Nat.{ℕ, zero, suc, _+_, _*_, _^_, _≤_, _<_}
+use mathlib.Core.Path.{_≡_, refl, ap, ap₂, sym, _∙_}
+use mathlib.Core.Bool.{Bool, true, false, _&&_}
+use mathlib.Core.List.{List, [], _∷_, _++_, map}
+use mathlib.Core.Logic.{_↔_}
+use native.Mathlib.Nat.{pow-succ'}
+use native.Mathlib.Omega.{arith}
+use borrow.Author.Tests.{eqb-true, eq-eqb}
+use lib.Dec.{eqb}
+use lib.ListN.{length, getD, length-append, length-map}
+
+-- s is a string of n bits
+pub record Bits (n : ℕ) (s : List ℕ) : Type 0 where
+  pub long : length s ≡ n
+  pub each : (i : ℕ) → i < n → getD s i 0 ≤ 1
+
+-- all of them: those that begin with 0, then those that begin with 1
+unfoldable pub strings : ℕ → List (List ℕ)
+strings zero = [] ∷ []
+strings (suc n) = map (λ s. 0 ∷ s) (strings n) ++ map (λ s. 1 ∷ s) (strings n)
+
+-- the sum of g over a list
+unfoldable pub over : {A : Type 0} → List A → (A → ℕ) → ℕ
+over [] g = 0
+over (x ∷ xs) g = g x + over xs g
+
+abbrev pub one-if : Bool → ℕ
+one-if true = 1
+one-if false = 0
+
+-- how many of a list pass the test
+unfoldable pub count : {A : Type 0} → (A → Bool) → List A → ℕ
+count test xs = over xs (λ x. one-if (test x))
+
+-- whether two strings are one
+unfoldable pub same : List ℕ → List ℕ → Bool
+same [] [] = true
+same [] (y ∷ t) = false
+same (x ∷ s) [] = false
+same (x ∷ s) (y ∷ t) = eqb x y && same s t
+
+-- P of each element of a list
+abbrev pub Each : {A : Type 0} → (A → Type 0) → List A → Type 0
+Each P [] = Unit {0}
+Each P (x ∷ xs) = P x × Each P xs
+
+-- ---- sums over lists
+module _ {A : Type 0} where
+  over-append : (g : A → ℕ) (xs ys : List A) → over (xs ++ ys) g ≡ over xs g + over ys g
+  unfolding over
+  over-append g [] ys = omega arith
+  over-append g (x ∷ xs) ys = omega (arith, over-append g xs ys)
+
+  over-map : {B : Type 0} (f : A → B) (g : B → ℕ) (xs : List A) → over (map f xs) g ≡ over xs (λ x. g (f x))
+  unfolding over
+  over-map f g [] = refl
+  over-map f g (x ∷ xs) = ap (λ (n : ℕ). g (f x) + n) (over-map f g xs)
+
+  pub over-same : (k : ℕ) (xs : List A) → over xs (λ x. k) ≡ length xs * k
+  unfolding over
+  over-same k [] = omega arith
+  over-same k (x ∷ xs) = omega (arith, over-same k xs)
+
+  pub over-eq : (f g : A → ℕ) (xs : List A) → Each (λ x. f x ≡ g x) xs → over xs f ≡ over xs g
+  unfolding over
+  over-eq f g [] e = refl
+  over-eq f g (x ∷ xs) e = ap₂ _+_ (e .0) (over-eq f g xs (e .1))
+
+  each-append : (P : A → Type 0) (xs ys : List A) → Each P xs → Each P ys → Each P (xs ++ ys)
+  each-append P [] ys p q = q
+  each-append P (x ∷ xs) ys p q = (p .0, each-append P xs ys (p .1) q)
+
+  each-map : {B : Type 0} (P : A → Type 0) (Q : B → Type 0) (f : A → B) (xs : List A) → ((x : A) → P x → Q (f x)) → Each P xs → Each Q (map f xs)
+  each-map P Q f [] h p = tt
+  each-map P Q f (x ∷ xs) h p = (h x (p .0), each-map P Q f xs h (p .1))
+
+  pub each-so : (P Q : A → Type 0) (xs : List A) → ((x : A) → P x → Q x) → Each P xs → Each Q xs
+  each-so P Q [] h p = tt
+  each-so P Q (x ∷ xs) h p = (h x (p .0), each-so P Q xs h (p .1))
+
+-- a sum over the strings splits by the first bit
+pub over-strings : (n : ℕ) (g : List ℕ → ℕ) → over (strings (suc n)) g ≡ over (strings n) (λ s. g (0 ∷ s)) + over (strings n) (λ s. g (1 ∷ s))
+unfolding strings
+over-strings n g =
+    over-append g (map (λ s. 0 ∷ s) (strings n)) (map (λ s. 1 ∷ s) (strings n)) ∙
+    ap₂ _+_ (over-map (λ s. 0 ∷ s) g (strings n)) (over-map (λ s. 1 ∷ s) g (strings n))
+
+-- ---- `strings n` is what it says
+pub strings-many : (n : ℕ) → length (strings n) ≡ 2 ^ n
+unfolding strings
+strings-many zero = refl
+strings-many (suc n) =
+    length-append (map (λ s. 0 ∷ s) (strings n)) (map (λ s. 1 ∷ s) (strings n)) ∙
+    rw (pow-succ' 2 n) (omega (arith, length-map (strings n) (λ s. 0 ∷ s), length-map (strings n) (λ s. 1 ∷ s), strings-many n))
+
+pub bits-none : Bits 0 []
+bits-none = record { long = refl; each = λ i l. absurd (omega arith) }
+
+pub bits-more : (x n : ℕ) (s : List ℕ) → x ≤ 1 → Bits n s → Bits (suc n) (x ∷ s)
+bits-more x n s h b = record { long = ap suc (b .long); each = at }
+  where
+    at : (i : ℕ) → i < suc n → getD (x ∷ s) i 0 ≤ 1
+    at zero l = h
+    at (suc i) l = b .each i (omega arith)
+
+pub bits-rest : (x n : ℕ) (s : List ℕ) → Bits (suc n) (x ∷ s) → Bits n s
+bits-rest x n s b = record { long = omega (arith, b .long); each = λ i l. b .each (suc i) (omega arith) }
+
+-- each is a string of n bits
+pub strings-bits : (n : ℕ) → Each (Bits n) (strings n)
+unfolding strings
+strings-bits zero = (bits-none, tt)
+strings-bits (suc n) =
+    each-append (Bits (suc n)) (map (λ s. 0 ∷ s) (strings n)) (map (λ s. 1 ∷ s) (strings n))
+    (each-map (Bits n) (Bits (suc n)) (λ s. 0 ∷ s) (strings n) (λ s b. bits-more 0 n s (omega arith) b) (strings-bits n))
+    (each-map (Bits n) (Bits (suc n)) (λ s. 1 ∷ s) (strings n) (λ s b. bits-more 1 n s (omega arith) b) (strings-bits n))
+
+both : (a b : Bool) → (a && b) ≡ true → (a ≡ true) × (b ≡ true)
+both true b e = (refl, e)
+both false b e = absurd (let z : _≡_ {A = ℕ} 0 1 = cc in omega arith)
+
+same-so : (s t : List ℕ) → same s t ≡ true → s ≡ t
+unfolding same
+same-so [] [] e = refl
+same-so [] (y ∷ t) e = absurd (let z : _≡_ {A = ℕ} 0 1 = cc in omega arith)
+same-so (x ∷ s) [] e = absurd (let z : _≡_ {A = ℕ} 0 1 = cc in omega arith)
+same-so (x ∷ s) (y ∷ t) e =
+    let p = both (eqb x y) (same s t) e in
+    rw (eqb-true x y (p .0), same-so s t (p .1))
+
+same-self : (s : List ℕ) → same s s ≡ true
+unfolding same
+same-self [] = refl
+same-self (x ∷ s) = rw (eq-eqb x x refl) (same-self s)
+
+pub same-is : (s t : List ℕ) → (same s t ≡ true) ↔ (s ≡ t)
+same-is s t = (same-so s t, λ e. rw e (same-self t))
+
+-- each string of n bits is there, and there once
+pub strings-once : (n : ℕ) (s : List ℕ) → Bits n s → count (same s) (strings n) ≡ 1
+unfolding count same strings over
+strings-once zero [] b = refl
+strings-once zero (x ∷ s) b = absurd (omega (arith, b .long))
+strings-once (suc n) [] b = absurd (omega (arith, b .long))
+strings-once (suc n) (zero ∷ s) b =
+    over-strings n (λ t. one-if (same (0 ∷ s) t)) ∙ omega (arith, over-same 0 (strings n), strings-once n s (bits-rest 0 n s b))
+strings-once (suc n) (suc zero ∷ s) b =
+    over-strings n (λ t. one-if (same (1 ∷ s) t)) ∙ omega (arith, over-same 0 (strings n), strings-once n s (bits-rest 1 n s b))
+strings-once (suc n) (suc (suc x) ∷ s) b = absurd (omega (arith, b .each 0 (omega arith)))
+
+-- tests that agree on the strings of n bits pass as many of them
+pub count-eq : (n : ℕ) (f g : List ℕ → Bool) → ((s : List ℕ) → Bits n s → f s ≡ g s) → count f (strings n) ≡ count g (strings n)
+unfolding count
+count-eq n f g e =
+    over-eq (λ s. one-if (f s)) (λ s. one-if (g s)) (strings n)
+    (each-so (Bits n) (λ s. one-if (f s) ≡ one-if (g s)) (strings n) (λ s b. ap one-if (e s b)) (strings-bits n))

@@ -1,0 +1,86 @@
+-- 01, "Matrix and walk": the walk on a string of bits, and what walking a matrix file comes to. Assumes nothing.
+use Prim.Native.Nat.{ℕ, zero, suc, _+_, _*_}
+use mathlib.Core.Bool.{Bool, true, false}
+use mathlib.Core.List.{List, [], _∷_}
+use lib.Dec.{eqb}
+use Rattle.laws.specs.Lay.{upto}
+use Rattle.laws.specs.Outcome.{Outcome, refused, gives, _>>_, _>>=_}
+use Rattle.files.specs.Fields.{bitOf}
+use Rattle.files.specs.Matrix.{Matrix, bit}
+use Rattle.files.specs.Files.{matrixOf}
+use Rattle.files.specs.Refusal.{numberOf}
+use Rattle.files.specs.Strings.{stringsOf}
+use Rattle.walk.specs.declared.Drawn as code
+use Rattle.walk.specs.declared.Drawn.the-variants as drew
+use Rattle.walk.specs.declared.Walked.{Walked}
+use Rattle.walk.specs.declared.Walked.the-variants as Walked
+
+-- what a walk draws: a row, hit in a column, or nothing
+pub data Drawn : Type 0 where
+  hit : ℕ → ℕ → Drawn
+  miss : Drawn
+
+-- where the rows of one column leave the walk: at the row that it hits, or with what is left of d
+pub data Place : Type 0 where
+  found : ℕ → Place
+  left : ℕ → Place
+
+-- a row whose bit is b: nothing at a 0; at a 1 a hit if d is 0, and otherwise d drops by 1
+unfoldable pub at : ℕ → ℕ → ℕ → (ℕ → Place) → Place
+at zero row d go = go d
+at (suc b) row zero go = found row
+at (suc b) row (suc d) go = go d
+
+-- the rows r - 1 down to 0 of one column
+unfoldable pub scan : (ℕ → ℕ) → ℕ → ℕ → Place
+scan column zero d = left d
+scan column (suc r) d = at (column r) r d (λ e. scan column r e)
+
+-- a hit in column c ends the walk, and what is left of d goes on
+unfoldable pub then : ℕ → Place → (ℕ → Drawn) → Drawn
+then c (found row) go = hit row c
+then c (left d) go = go d
+
+-- from column c on with the distance d, over m rows and one bit for each column that is left: d becomes 2d + b, then the rows are scanned
+unfoldable pub walk : (ℕ → ℕ → ℕ) → ℕ → ℕ → ℕ → List ℕ → Drawn
+walk bit m c d [] = miss
+walk bit m c d (b ∷ bs) = then c (scan (λ v. bit v c) m (2 * d + b)) (λ e. walk bit m (suc c) e bs)
+
+-- the walk of a matrix on a string of bits
+unfoldable pub drawn : Matrix → List ℕ → Drawn
+drawn M string = walk (bit M) (M .rows) 0 0 string
+
+-- walking a matrix file on a packed string: the matrix's checks, then the string's, then the walk on its first n bits
+unfoldable pub walkOf : List ℕ → List ℕ → Outcome Drawn
+walkOf file string = do
+  M ← matrixOf file
+  stringsOf 1 (M .columns) string
+  gives (drawn M (upto (M .columns) (bitOf string 0)))
+
+-- what is told of a walk: the row that it hits, as the sample, or a miss
+pub data Answer : Type 0 where
+  sample : ℕ → Answer
+  missed : Answer
+
+abbrev pub answerOf : Drawn → Answer
+answerOf (hit v c) = sample v
+answerOf miss = missed
+
+-- whether a walk hits row v, and whether it misses
+unfoldable pub hits : ℕ → Drawn → Bool
+hits v (hit u c) = eqb u v
+hits v miss = false
+
+unfoldable pub misses : Drawn → Bool
+misses (hit v c) = false
+misses miss = true
+
+-- ---- the answers' cases in 01's numbers and values
+abbrev pub drawnOf : code.Drawn → Drawn
+drawnOf (drew.Hit v c) = hit v c
+drawnOf drew.Miss = miss
+
+abbrev pub walked : Walked → Outcome Answer
+walked (Walked.Refused why) = refused (numberOf why)
+walked (Walked.Hit v) = gives (sample v)
+walked Walked.Miss = gives missed
