@@ -24,16 +24,18 @@ at-near zero row (suc d) go e n = absurd (omega arith)
 at-near (suc b) row (suc d) go e n = ap go (omega arith)
 
 -- ---- a column
-pub scan-none : (column : ℕ → ℕ) (v d : ℕ) → v ≤ 0 → scan column v d ≡ left d
+-- the row that is scanned after i others, counting from the top
+pub scan-turn : (column : ℕ → ℕ) (m i d : ℕ) → i < m → scan column (m - i) d ≡ at (column (m - 1 - i)) (m - 1 - i) d (λ e. scan column (m - (i + 1)) e)
 unfolding scan
-scan-none column zero d h = refl
-scan-none column (suc v) d h = absurd (omega arith)
+scan-turn column m i d h =
+    let e : m - i ≡ suc (m - 1 - i) = omega arith in
+    let k : m - (i + 1) ≡ m - 1 - i = omega arith in
+    rw (e, k)
 
-pub scan-turn : (column : ℕ → ℕ) (v d : ℕ) → 0 < v → scan column v d ≡ at (column (v - 1)) (v - 1) d (λ e. scan column (v - 1) e)
+pub scan-none : (column : ℕ → ℕ) (m i d : ℕ) → m ≤ i → scan column (m - i) d ≡ left d
 unfolding scan
-scan-turn column zero d h = absurd (omega arith)
-scan-turn column (suc v) d h =
-    let e : suc v - 1 ≡ v = omega arith in
+scan-none column m i d h =
+    let e : m - i ≡ 0 = omega arith in
     rw e
 
 -- ---- a distance of m or more left after a column can never hit later, whatever the bits (01, "Misreadings to shut out")

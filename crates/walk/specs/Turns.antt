@@ -28,43 +28,45 @@ module _ (bit : ℕ → ℕ → ℕ) (string : ℕ → ℕ) (m n : ℕ) where
       rw e
 
 module _ (bit : ℕ → ℕ → ℕ) (string : ℕ → ℕ) (m n : ℕ) (w : Drawn) where
-  -- w is what is left before column c at distance d; and before the rows below v of column c
+  -- w is what is left before column c at distance d; and in column c after i rows from the top
   pub Left : ℕ → ℕ → Type 0
   Left c d = rest bit string m n c d ≡ w
 
   pub Within : ℕ → ℕ → ℕ → Type 0
-  Within c v d = then c (scan (λ r. bit r c) v d) (λ e. rest bit string m n (c + 1) e) ≡ w
+  Within c i d = then c (scan (λ v. bit v c) (m - i) d) (λ e. rest bit string m n (c + 1) e) ≡ w
 
-  pub into : (c d b : ℕ) → c < n → b ≡ string c → Left c d → Within c m (2 * d + b)
+  pub into : (c d b : ℕ) → c < n → b ≡ string c → Left c d → Within c 0 (2 * d + b)
   unfolding Left Within
-  into c d b h e l = rw e (sym (rest-column bit string m n c d h) ∙ l)
+  into c d b h e l = rw (sub-zero m, e) (sym (rest-column bit string m n c d h) ∙ l)
 
-  -- one row
-  turn : (c b v d : ℕ) (o : Place) → 0 < v → b ≡ bit (v - 1) c → at b (v - 1) d (λ x. scan (λ r. bit r c) (v - 1) x) ≡ o → Within c v d →
+  -- one row, in the code's words
+  turn : (c b i d : ℕ) (o : Place) → i < m → b ≡ bit (m - 1 - i) c → at b (m - 1 - i) d (λ x. scan (λ v. bit v c) (m - (i + 1)) x) ≡ o → Within c i d →
       then c o (λ e. rest bit string m n (c + 1) e) ≡ w
   unfolding Within
-  turn c b v d o h e q t = rw (← q, e, ← scan-turn (λ r. bit r c) v d h) t
+  turn c b i d o h e q t = rw (← q, e, ← scan-turn (λ v. bit v c) m i d h) t
 
-  pub pass : (c b v d : ℕ) → 0 < v → b ≡ bit (v - 1) c → b < 2 → (b ≡ 1 → ⊥) → Within c v d → Within c (v - 1) d
+  pub pass : (c b i d e : ℕ) → i < m → b ≡ bit (m - 1 - i) c → b < 2 → (b ≡ 1 → ⊥) → e ≡ d → Within c i d → Within c (i + 1) e
   unfolding Within
-  pass c b v d h e l q t = turn c b v d (scan (λ r. bit r c) (v - 1) d) h e (at-pass b (v - 1) d (λ x. scan (λ r. bit r c) (v - 1) x) l q) t
+  pass c b i d e h s l q k t =
+      rw k (turn c b i d (scan (λ v. bit v c) (m - (i + 1)) d) h s (at-pass b (m - 1 - i) d (λ x. scan (λ v. bit v c) (m - (i + 1)) x) l q) t)
 
-  pub strike : (c b v d : ℕ) → 0 < v → b ≡ bit (v - 1) c → b ≡ 1 → d ≡ 0 → Within c v d → hit (v - 1) c ≡ w
+  pub near : (c b i d e : ℕ) → i < m → b ≡ bit (m - 1 - i) c → b ≡ 1 → (d ≡ 0 → ⊥) → e ≡ d - 1 → Within c i d → Within c (i + 1) e
+  unfolding Within
+  near c b i d e h s l q k t =
+      rw k (turn c b i d (scan (λ v. bit v c) (m - (i + 1)) (d - 1)) h s (at-near b (m - 1 - i) d (λ x. scan (λ v. bit v c) (m - (i + 1)) x) l q) t)
+
+  pub strike : (c b i d : ℕ) → i < m → b ≡ bit (m - 1 - i) c → b ≡ 1 → d ≡ 0 → Within c i d → hit (m - 1 - i) c ≡ w
   unfolding then
-  strike c b v d h e l q t = turn c b v d (found (v - 1)) h e (at-hit b (v - 1) d (λ x. scan (λ r. bit r c) (v - 1) x) l q) t
+  strike c b i d h s l q t = turn c b i d (found (m - 1 - i)) h s (at-hit b (m - 1 - i) d (λ x. scan (λ v. bit v c) (m - (i + 1)) x) l q) t
 
-  pub near : (c b v d : ℕ) → 0 < v → b ≡ bit (v - 1) c → b ≡ 1 → (d ≡ 0 → ⊥) → Within c v d → Within c (v - 1) (d - 1)
-  unfolding Within
-  near c b v d h e l q t = turn c b v d (scan (λ r. bit r c) (v - 1) (d - 1)) h e (at-near b (v - 1) d (λ x. scan (λ r. bit r c) (v - 1) x) l q) t
-
-  -- the next column, and the ways out
-  pub after : (c v d : ℕ) → v ≤ 0 → Within c v d → Left (c + 1) d
+  -- the next column, and the other ways out
+  pub after : (c i d : ℕ) → m ≤ i → Within c i d → Left (c + 1) d
   unfolding Left Within then
-  after c v d h t = rw (scan-none (λ r. bit r c) v d h) at t
+  after c i d h t = rw (scan-none (λ v. bit v c) m i d h) at t
 
-  pub lost : (c v d : ℕ) → v ≤ 0 → m ≤ d → Within c v d → miss ≡ w
+  pub lost : (c i d : ℕ) → m ≤ i → m ≤ d → Within c i d → miss ≡ w
   unfolding Left rest
-  lost c v d h l t = sym (far bit m (c + 1) d (from string (c + 1) (n - (c + 1))) l) ∙ after c v d h t
+  lost c i d h l t = sym (far bit m (c + 1) d (from string (c + 1) (n - (c + 1))) l) ∙ after c i d h t
 
   pub over : (c d : ℕ) → n ≤ c → Left c d → miss ≡ w
   unfolding Left

@@ -39,9 +39,8 @@ fn draw(rows: &[u8], m: usize, n: usize, string: &[u8]) -> Drawn
     let mut drawn = Drawn::Miss;
     'walk: for c in 0..n {
         d = 2 * d + bit(string, 0, c) as usize;
-        let mut v = m;
-        while v > 0 {
-            v -= 1;
+        for i in 0..m {
+            let v = m - 1 - i;
             if bit(rows, v * width, c) == 1 {
                 if d == 0 {
                     drawn = Drawn::Hit { row: v, column: c };

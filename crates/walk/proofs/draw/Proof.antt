@@ -2,6 +2,7 @@
 use borrow.Author.Needs.{needs}
 use native.Mathlib.Omega.{arith}
 use native.Mathlib.Nat.{mul-le-mul}
+use mathlib.Core.Logic.{⊎-elim}
 use mathlib.Core.Path.{_≡_, ap, _∙_}
 use Prim.Native.Nat.{_+_, _-_, _*_, _≤_, _<_}
 use Rattle.laws.specs.Lay.{upto}
@@ -14,11 +15,11 @@ use Rattle.walk.proofs.draw.Statement.{statement}
 use Rattle.walk.proofs.draw.Tie as tie
 
 abbrev Inv-loop : tie.InvT-loop
-Inv-loop rows m n string width d₀ drawn₀ c v₀ d drawn v =
-    (drawn ≡ Drawn.Miss) × (width ≡ F.width n) × (v ≤ m) × (d ≤ 2 * m + 1) × (c < n) × Within (λ v. bitOf rows (v * F.width n)) (bitOf string 0) m n (W.walk (λ v. bitOf rows (v * F.width n)) m 0 0 (upto n (bitOf string 0))) c v d
+Inv-loop rows m n string width d₀ drawn₀ c i₀ d drawn i =
+    (drawn ≡ Drawn.Miss) × (width ≡ F.width n) × (i ≤ m) × (d ≤ 2 * m + 1) × (c < n) × Within (λ v. bitOf rows (v * F.width n)) (bitOf string 0) m n (W.walk (λ v. bitOf rows (v * F.width n)) m 0 0 (upto n (bitOf string 0))) c i d
 
 abbrev μ-loop : tie.MeasureT-loop
-μ-loop rows m n string width d₀ drawn₀ c v₀ d drawn v = v
+μ-loop rows m n string width d₀ drawn₀ c i₀ d drawn i = m - i
 
 abbrev Inv-walk : tie.InvT-walk
 Inv-walk rows m n string width d₀ drawn₀ c₀ d drawn c =
@@ -51,9 +52,12 @@ loop-holds c = (search needs, search needs, search needs, search needs, search n
 sub-v : tie.Need-sub-v Inv-loop μ-loop Inv-walk μ-walk
 sub-v c = search needs
 
+sub-v-2 : tie.Need-sub-v-2 Inv-loop μ-loop Inv-walk μ-walk
+sub-v-2 c = search needs
+
 mul-bit : tie.Need-mul-bit Inv-loop μ-loop Inv-walk μ-walk
 mul-bit c =
-    let few : c .before .loop .v - 1 ≤ 65535 = search needs in
+    let few : c .before .before .before .before .before .before .before .args .m - 1 - c .before .loop .i ≤ 65535 = search needs in
     let narrow : F.width (c .before .before .before .before .before .before .before .args .n) ≤ 8192 = search needs in
     record { fits = omega (arith, mul-le-mul few narrow) }
 
@@ -63,17 +67,18 @@ bit-requires-2 c κs = search needs
 sub-d : tie.Need-sub-d Inv-loop μ-loop Inv-walk μ-walk
 sub-d c = search needs
 
+add-i : tie.Need-add-i Inv-loop μ-loop Inv-walk μ-walk
+add-i c = search needs
+
 loop-less : tie.Need-loop-less Inv-loop μ-loop Inv-walk μ-walk
 loop-less c = search needs
 
 loop-again : tie.Need-loop-again Inv-loop μ-loop Inv-walk μ-walk
-loop-again c = (search needs, search needs, search needs, search needs, search needs, near _ _ _ _ _ _ _ _ _ (c .before .before .before .loop-test .taken) (rw (c .before .before .before .before .loop .inv .1) at (c .before .before .bit2 .ensures .0)) (c .before .if1 .taken) (c .if2 .left) (c .before .before .before .before .loop .inv .5))
-
-loop-less-2 : tie.Need-loop-less-2 Inv-loop μ-loop Inv-walk μ-walk
-loop-less-2 c = search needs
-
-loop-again-2 : tie.Need-loop-again-2 Inv-loop μ-loop Inv-walk μ-walk
-loop-again-2 c = (search needs, search needs, search needs, search needs, search needs, pass _ _ _ _ _ _ _ _ _ (c .before .before .loop-test .taken) (rw (c .before .before .before .loop .inv .1) at (c .before .bit2 .ensures .0)) (c .before .bit2 .ensures .1) (c .if1 .left) (c .before .before .before .loop .inv .5))
+loop-again c =
+    ⊎-elim
+    (λ u. (search needs, search needs, search needs, search needs, search needs, near _ _ _ _ _ _ _ _ _ _ (c .before .before .loop-test .taken) (rw (c .before .before .before .loop .inv .1) at (c .before .bit2 .ensures .0)) (u .0 .taken) (u .1 .left) (u .2) (c .before .before .before .loop .inv .5)))
+    (λ u. (search needs, search needs, search needs, search needs, search needs, pass _ _ _ _ _ _ _ _ _ _ (c .before .before .loop-test .taken) (rw (c .before .before .before .loop .inv .1) at (c .before .bit2 .ensures .0)) (c .before .bit2 .ensures .1) (u .0 .left) (u .1) (c .before .before .before .loop .inv .5)))
+    (c .if1 .came)
 
 add-c : tie.Need-add-c Inv-loop μ-loop Inv-walk μ-walk
 add-c c = search needs
@@ -109,13 +114,13 @@ draw-spec =
     add-d
     loop-holds
     sub-v
+    sub-v-2
     mul-bit
     bit-requires-2
     sub-d
+    add-i
     loop-less
     loop-again
-    loop-less-2
-    loop-again-2
     add-c
     walk-less
     walk-again
