@@ -1,8 +1,8 @@
 -- The turns of the walk's loops, each over plain variables: what is left from here on is what the whole walk draws. Assumes nothing.
-use Prim.Native.Nat.{ℕ, zero, suc, _+_, _-_, _*_, _≤_, _<_}
+use Prim.Native.Nat.{ℕ, zero, suc, _+_, _-_, _*_, _^_, _≤_, _<_}
 use mathlib.Core.Path.{_≡_, refl, sym, ap, _∙_}
 use mathlib.Core.List.{List}
-use native.Mathlib.Nat.{sub-zero}
+use native.Mathlib.Nat.{sub-zero, mul-le-mul}
 use native.Mathlib.Numerals.{add-one}
 use native.Mathlib.Omega.{arith}
 use Rattle.laws.specs.Lay.{upto}
@@ -75,3 +75,7 @@ module _ (bit : ℕ → ℕ → ℕ) (string : ℕ → ℕ) (m n : ℕ) (w : Dra
 pub start : (bit : ℕ → ℕ → ℕ) (string : ℕ → ℕ) (m n : ℕ) → Left bit string m n (walk bit m 0 0 (upto n string)) 0 0
 unfolding Left rest
 start bit string m n = rw (sub-zero n, upto-from n string)
+
+-- where a row begins
+pub place-fits : (v w : ℕ) → v ≤ 65535 → w ≤ 8192 → v * w < 2 ^ 64
+place-fits v w a b = omega (arith, mul-le-mul a b)

@@ -1,7 +1,5 @@
 -- `walk::draw` meets its contract: before each column and each row, what is left of the walk is what the whole draws. Assumes nothing.
 use borrow.Author.Needs.{needs}
-use native.Mathlib.Omega.{arith}
-use native.Mathlib.Nat.{mul-le-mul}
 use mathlib.Core.Logic.{⊎-elim}
 use mathlib.Core.Path.{_≡_, ap, _∙_}
 use Prim.Native.Nat.{_+_, _-_, _*_, _≤_, _<_}
@@ -10,7 +8,7 @@ use Rattle.files.specs.Fields.{bitOf}
 use Rattle.files.specs.Fields as F
 use Rattle.walk.specs.declared.Drawn.the-variants as Drawn
 use Rattle.walk.specs.Walk as W
-use Rattle.walk.specs.Turns.{Left, Within, start, into, pass, strike, near, after, lost, over}
+use Rattle.walk.specs.Turns.{Left, Within, start, into, pass, strike, near, after, lost, over, place-fits}
 use Rattle.walk.proofs.draw.Statement.{statement}
 use Rattle.walk.proofs.draw.Tie as tie
 
@@ -56,10 +54,7 @@ sub-v-2 : tie.Need-sub-v-2 Inv-loop μ-loop Inv-walk μ-walk
 sub-v-2 c = search needs
 
 mul-bit : tie.Need-mul-bit Inv-loop μ-loop Inv-walk μ-walk
-mul-bit c =
-    let few : c .before .before .before .before .before .before .before .args .m - 1 - c .before .loop .i ≤ 65535 = search needs in
-    let narrow : F.width (c .before .before .before .before .before .before .before .args .n) ≤ 8192 = search needs in
-    record { fits = omega (arith, mul-le-mul few narrow) }
+mul-bit c = record { fits = place-fits _ _ (search needs) (search needs) }
 
 bit-requires-2 : tie.Need-bit-requires-2 Inv-loop μ-loop Inv-walk μ-walk
 bit-requires-2 c κs = search needs
