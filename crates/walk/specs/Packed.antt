@@ -1,22 +1,23 @@
 -- Strings of bits as bytes: a packed string has its bits, and passes the checks of a string that is lent. Assumes nothing.
-use Prim.Native.Nat.{ℕ, zero, suc, _+_, _-_, _*_, _/_, _%_, _^_, _≤_, _<_}
+use Prim.Native.Nat.{ℕ, _+_, _-_, _*_, _/_, _%_, _≤_, _<_}
 use mathlib.Core.Path.{_≡_, refl, sym, ap, _∙_}
 use mathlib.Core.Bool.{Bool, true, false, _||_}
-use mathlib.Core.List.{List, [], _∷_, _++_}
+use mathlib.Core.List.{List, _++_}
 use native.Mathlib.Nat.{zero-mul, one-mul}
 use native.Mathlib.Omega.{arith}
 use borrow.Author.Tests.{le-ltb}
 use lib.Dec.{ltb}
 use lib.ListN.{length, getD, length-append, List·getD-append}
+use lib.Seq.{take-all}
 use Rattle.laws.specs.Sums.{any}
-use Rattle.laws.specs.Digits.{number, digit, digit-number, number-shift}
-use Rattle.laws.specs.Lay.{upto, getD-upto, upto-eq}
-use Rattle.laws.specs.From.{from, from-list, upto-from}
-use Rattle.laws.specs.Outcome.{Outcome, refuse, gives, _>>_}
-use Rattle.files.specs.Fields.{width, packedBit, bitOf, packed, padded, padded-below, padded-above, padded-le, length-packed, spare}
+use Rattle.laws.specs.Digits.{digit, number-shift}
+use Rattle.laws.specs.Lay.{blocks, upto, upto-eq, take-is}
+use Rattle.laws.specs.Outcome.{refuse, gives, _>>_}
+use Rattle.files.specs.Fields.{width, packedBit, bitOf, packed, padded, padded-below, padded-above, length-packed, spare, spare-none}
 use Rattle.files.specs.Matrix.{outside, most-columns}
 use Rattle.files.specs.Checks.{inside}
 use Rattle.files.specs.Strings.{stringsOf}
+use Rattle.files.specs.RoundTrip.{packed-bit}
 use Rattle.walk.specs.Strings.{Bits}
 
 -- a string of bits, packed as a matrix row
@@ -37,30 +38,17 @@ one-string n bytes = rw (one-mul (width n), zero-mul (width n)) (or-false (spare
 pub string-sound : (n : ℕ) (bytes : List ℕ) → 1 ≤ n → n ≤ most-columns → width n ≤ length bytes → spare bytes n 0 ≡ false → stringsOf 1 n bytes ≡ gives tt
 string-sound n bytes a b l s = rw (one-string n bytes, inside most-columns n a b, le-ltb (length bytes) (width n) l, s)
 
-zeros : (c k : ℕ) → number (λ i. 0) c k ≡ 0
-unfolding number
-zeros c zero = refl
-zeros c (suc k) = omega (arith, zeros (suc c) k)
-
 -- ---- the bits of packed bits
 module _ (n : ℕ) (f : ℕ → ℕ) (ok : (i : ℕ) → i < n → f i ≤ 1) where
   bit-padded : (i : ℕ) → i < 8 * width n → bitOf (packed n f) 0 i ≡ padded n f i
-  unfolding packedBit packed
-  bit-padded i h =
-      let byte : getD (upto (width n) (λ q. number (padded n f) (8 * q) 8)) (0 + i / 8) 0 ≡ number (padded n f) (8 * (i / 8)) 8 =
-      ap (λ (k : ℕ). getD (upto (width n) (λ q. number (padded n f) (8 * q) 8)) k 0) (omega arith) ∙
-      getD-upto (width n) (λ q. number (padded n f) (8 * q) 8) (i / 8) 0 (omega arith) in
-      rw byte
-      (digit-number (padded n f) (8 * (i / 8)) 8 (i % 8) (λ j a b. padded-le n f j ok) (omega arith) ∙ ap (padded n f) (omega arith))
+  unfolding blocks
+  bit-padded i h = rw (zero-mul (width n)) at (packed-bit n (λ v. f) 1 0 i ok (omega arith) h)
 
-  pub packed-bit : (i : ℕ) → i < n → bitOf (packed n f) 0 i ≡ f i
-  packed-bit i h = bit-padded i (omega arith) ∙ sym (padded-below n f i h)
+  pub string-bit : (i : ℕ) → i < n → bitOf (packed n f) 0 i ≡ f i
+  string-bit i h = bit-padded i (omega arith) ∙ sym (padded-below n f i h)
 
   packed-spare : spare (packed n f) n 0 ≡ false
-  unfolding spare
-  packed-spare =
-      rw (number-shift (bitOf (packed n f) 0) (λ i. 0) n n (8 * width n - n)
-      (λ i l. bit-padded (n + i) (omega arith) ∙ sym (padded-above n f (n + i) (omega arith))) ∙ zeros n (8 * width n - n))
+  packed-spare = spare-none (packed n f) n 0 (λ i a b. bit-padded i b ∙ sym (padded-above n f i a))
 
   pub packed-sound : 1 ≤ n → n ≤ most-columns → stringsOf 1 n (packed n f) ≡ gives tt
   packed-sound a b = string-sound n (packed n f) a b (omega (arith, length-packed n f)) packed-spare
@@ -74,9 +62,8 @@ module _ (n : ℕ) (s : List ℕ) (b : Bits n s) where
   pub pack-bits : upto n (bitOf (pack n s) 0) ≡ s
   unfolding pack
   pack-bits =
-      upto-eq n (bitOf (packed n (λ i. getD s i 0)) 0) (λ i. getD s i 0) (packed-bit n (λ i. getD s i 0) (b .each)) ∙
-      (upto-from n (λ i. getD s i 0) ∙
-      rw (← b .long) (from-list 0 s 0 (λ i. getD s i 0) (λ i l. ap (λ (k : ℕ). getD s k 0) (omega arith))))
+      upto-eq n (bitOf (packed n (λ i. getD s i 0)) 0) (λ i. getD s i 0) (string-bit n (λ i. getD s i 0) (b .each)) ∙
+      (sym (take-is 0 n s (omega (arith, b .long))) ∙ take-all n s (omega (arith, b .long)))
 
 -- ---- bytes behind the last one that a string needs do not count
 module _ (n : ℕ) (bytes more : List ℕ) (long : width n ≤ length bytes) where

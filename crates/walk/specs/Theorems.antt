@@ -15,12 +15,13 @@ use Rattle.files.specs.Fields.{width, bitOf}
 use Rattle.files.specs.Matrix.{Matrix, Accepted, bit, p, total}
 use Rattle.files.specs.Files.{matrixOf}
 use Rattle.files.specs.Live.{total-from}
+use Rattle.files.specs.RoundTrip.{read-accepted}
 use Rattle.files.specs.Strings.{stringsOf}
-use Rattle.walk.specs.Walk.{Drawn, hit, miss, drawn, walkOf, hits, misses}
+use Rattle.walk.specs.Walk.{hit, drawn, walkOf, hits, misses}
 use Rattle.walk.specs.Steps.{Inside, walk-inside}
 use Rattle.walk.specs.Strings.{Bits, strings, over, one-if, count, count-eq}
 use Rattle.walk.specs.Packed.{pack, pack-sound, pack-bits, bit-front, string-front}
-use Rattle.walk.specs.Matrices.{bits-of, file-accepted, same-matrix}
+use Rattle.walk.specs.Matrices.{bits-of, same-matrix}
 use Rattle.walk.specs.Counts.{weigh, walks, hits-weigh, misses-weigh, sum-none, sum-one}
 
 -- ---- 1. the counts
@@ -82,7 +83,7 @@ module _ (file : List ℕ) (M : Matrix) (e : matrixOf file ≡ gives M) where
 
   pub walk-packed : (s : List ℕ) → Bits (M .columns) s → walkOf file (pack (M .columns) s) ≡ gives (drawn M s)
   walk-packed s b =
-      let a = file-accepted file M e in
+      let a = read-accepted file M e in
       walk-is (pack (M .columns) s) (pack-sound (M .columns) s b (a .some-columns) (a .few-columns)) ∙
       ap (λ (l : List ℕ). gives (drawn M l)) (pack-bits (M .columns) s b)
 
@@ -90,13 +91,13 @@ module _ (file : List ℕ) (M : Matrix) (e : matrixOf file ≡ gives M) where
   pub file-hits : (v : ℕ) → v < M .rows → count (λ s. given (hits v) (walkOf file (pack (M .columns) s))) (strings (M .columns)) ≡ p M v
   file-hits v h =
       count-eq (M .columns) (λ s. given (hits v) (walkOf file (pack (M .columns) s))) (λ s. hits v (drawn M s)) (λ s b. ap (given (hits v)) (walk-packed s b)) ∙
-      hits-row M (file-accepted file M e) v h
+      hits-row M (read-accepted file M e) v h
 
   -- 1. exactly 2^n - T miss
   pub file-misses : count (λ s. given misses (walkOf file (pack (M .columns) s))) (strings (M .columns)) ≡ 2 ^ M .columns - total M
   file-misses =
       count-eq (M .columns) (λ s. given misses (walkOf file (pack (M .columns) s))) (λ s. misses (drawn M s)) (λ s b. ap (given misses) (walk-packed s b)) ∙
-      misses-rest M (file-accepted file M e)
+      misses-rest M (read-accepted file M e)
 
   -- 3. bytes whose first n bits agree give one answer, where both are sound
   pub file-first-bits : (a b : List ℕ) → stringsOf 1 (M .columns) a ≡ gives tt → stringsOf 1 (M .columns) b ≡ gives tt →

@@ -1,13 +1,12 @@
 -- The turns of the walk's loops, each over plain variables: what is left from here on is what the whole walk draws. Assumes nothing.
-use Prim.Native.Nat.{ℕ, zero, suc, _+_, _-_, _*_, _^_, _≤_, _<_}
-use mathlib.Core.Path.{_≡_, refl, sym, ap, _∙_}
-use mathlib.Core.List.{List}
+use Prim.Native.Nat.{ℕ, suc, _+_, _-_, _*_, _^_, _≤_, _<_}
+use mathlib.Core.Path.{_≡_, sym, _∙_}
 use native.Mathlib.Nat.{sub-zero, mul-le-mul}
 use native.Mathlib.Numerals.{add-one}
 use native.Mathlib.Omega.{arith}
 use Rattle.laws.specs.Lay.{upto}
 use Rattle.laws.specs.From.{from, upto-from}
-use Rattle.walk.specs.Walk.{Drawn, hit, miss, Place, found, left, at, scan, then, walk}
+use Rattle.walk.specs.Walk.{Drawn, hit, miss, Place, found, at, scan, then, walk}
 use Rattle.walk.specs.Steps.{at-pass, at-hit, at-near, scan-none, scan-turn, far}
 
 module _ (bit : ℕ → ℕ → ℕ) (string : ℕ → ℕ) (m n : ℕ) where

@@ -1,13 +1,13 @@
 -- The ways through the checks of a walk: each refusal, and what is drawn from the packed rows. Assumes nothing.
-use Prim.Native.Nat.{ℕ, _+_, _*_, _≤_, _<_}
-use mathlib.Core.Path.{_≡_, refl, sym, ap, _∙_, subst}
+use Prim.Native.Nat.{ℕ, _*_}
+use mathlib.Core.Path.{_≡_, sym, ap, _∙_}
 use mathlib.Core.List.{List}
 use native.Mathlib.Omega.{arith}
-use lib.ListN.{length, drop}
+use lib.ListN.{drop}
 use Rattle.laws.specs.Lay.{upto, length-upto}
-use Rattle.laws.specs.Outcome.{Outcome, refused, gives, mapped, mapped-gives, mapped-refused}
+use Rattle.laws.specs.Outcome.{refused, gives, mapped, mapped-gives, mapped-refused}
 use Rattle.files.specs.Fields.{width, bitOf}
-use Rattle.files.specs.Matrix.{Matrix, Sizes, sizes, bit}
+use Rattle.files.specs.Matrix.{Sizes, sizes, bit}
 use Rattle.files.specs.Files.{matrixOf, unpacked}
 use Rattle.files.specs.Checks.{matrix-read, unpacked-bit}
 use Rattle.files.specs.Strings.{stringsOf}
