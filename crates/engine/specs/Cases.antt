@@ -10,11 +10,13 @@ use lib.ListN.{length}
 use Rattle.laws.specs.Sums.{sumTo, any}
 use Rattle.laws.specs.Digits.{number, digit}
 use Rattle.laws.specs.Lay.{blocks, upto}
-use Rattle.laws.specs.Outcome.{Outcome, refused, gives, mapped}
+use Rattle.laws.specs.Outcome.{Outcome, refused, gives, mapped, _>>=_}
 use Rattle.files.specs.Fields.{fieldOf, packedBit, padded, packed, spare}
 use Rattle.files.specs.Matrix.{bit, p, total}
 use Rattle.files.specs.Files.{fileLength, headerBytes, matrixFile, headerOf, unpacked, bodyOf, matrixOf, readOf, writeOf}
+use Rattle.files.specs.Strings.{stringsOf}
 use Rattle.files.specs.Weights.{sum, share, built, buildOf}
+use Rattle.walk.specs.Walk.{Drawn, hit, miss, at, scan, then, walk, drawn, walkOf}
 use Rattle.files.specs.declared.weights.Usage.{Usage}
 use Rattle.files.specs.declared.weights.Usage.the-variants.{Plain}
 
@@ -26,37 +28,57 @@ pub data Case : Type 0 where
   reads : List ℕ → Outcome (List ℕ) → Case
   -- weights and columns, and the entries of what is built
   builds : Usage → List ℕ → ℕ → Outcome (List ℕ) → Case
+  -- a file and a packed string, and the row that the walk hits, or none
+  walks : List ℕ → List ℕ → Outcome (List ℕ) → Case
+  -- the walk of what is built from weights and columns, on a packed string
+  builds-walks : Usage → List ℕ → ℕ → List ℕ → Outcome (List ℕ) → Case
 
 pub cases : List Case
 cases =
     -- rows 10, 01, 01 are the file 0B 00 20 00 03 00 02 00 80 40 40
     writes 3 2 (1 ∷ 0 ∷ 0 ∷ 1 ∷ 0 ∷ 1 ∷ []) (gives (0x0b ∷ 0 ∷ 0x20 ∷ 0 ∷ 3 ∷ 0 ∷ 2 ∷ 0 ∷ 0x80 ∷ 0x40 ∷ 0x40 ∷ []))
     ∷ reads (0x0b ∷ 0 ∷ 0x20 ∷ 0 ∷ 3 ∷ 0 ∷ 2 ∷ 0 ∷ 0x80 ∷ 0x40 ∷ 0x40 ∷ []) (gives (1 ∷ 0 ∷ 0 ∷ 1 ∷ 0 ∷ 1 ∷ []))
+    -- strings 00 and 01 give 0, 10 gives 2, 11 gives 1
+    ∷ walks (0x0b ∷ 0 ∷ 0x20 ∷ 0 ∷ 3 ∷ 0 ∷ 2 ∷ 0 ∷ 0x80 ∷ 0x40 ∷ 0x40 ∷ []) (0x00 ∷ []) (gives (0 ∷ []))
+    ∷ walks (0x0b ∷ 0 ∷ 0x20 ∷ 0 ∷ 3 ∷ 0 ∷ 2 ∷ 0 ∷ 0x80 ∷ 0x40 ∷ 0x40 ∷ []) (0x40 ∷ []) (gives (0 ∷ []))
+    ∷ walks (0x0b ∷ 0 ∷ 0x20 ∷ 0 ∷ 3 ∷ 0 ∷ 2 ∷ 0 ∷ 0x80 ∷ 0x40 ∷ 0x40 ∷ []) (0x80 ∷ []) (gives (2 ∷ []))
+    ∷ walks (0x0b ∷ 0 ∷ 0x20 ∷ 0 ∷ 3 ∷ 0 ∷ 2 ∷ 0 ∷ 0x80 ∷ 0x40 ∷ 0x40 ∷ []) (0xc0 ∷ []) (gives (1 ∷ []))
+    -- one row 1, one column: string 0 gives 0, string 1 misses
+    ∷ walks (0x09 ∷ 0 ∷ 0x20 ∷ 0 ∷ 1 ∷ 0 ∷ 1 ∷ 0 ∷ 0x80 ∷ []) (0x00 ∷ []) (gives (0 ∷ []))
+    ∷ walks (0x09 ∷ 0 ∷ 0x20 ∷ 0 ∷ 1 ∷ 0 ∷ 1 ∷ 0 ∷ 0x80 ∷ []) (0x80 ∷ []) (gives [])
     -- rows 10, 10, 01: refusal 6
     ∷ writes 3 2 (1 ∷ 0 ∷ 1 ∷ 0 ∷ 0 ∷ 1 ∷ []) (refused 6)
     ∷ reads (0x0b ∷ 0 ∷ 0x20 ∷ 0 ∷ 3 ∷ 0 ∷ 2 ∷ 0 ∷ 0x80 ∷ 0x80 ∷ 0x40 ∷ []) (refused 6)
     -- weights 1, 1, 1 with n = 2: rows 01, 01, 01
     ∷ builds Plain (1 ∷ 1 ∷ 1 ∷ []) 2 (gives (0 ∷ 1 ∷ 0 ∷ 1 ∷ 0 ∷ 1 ∷ []))
+    -- and 11 misses
+    ∷ builds-walks Plain (1 ∷ 1 ∷ 1 ∷ []) 2 (0xc0 ∷ []) (gives [])
     -- weight 5 alone, n = 3: row 111
     ∷ builds Plain (5 ∷ []) 3 (gives (1 ∷ 1 ∷ 1 ∷ []))
     -- weights 0, 0: refusal 11
     ∷ builds Plain (0 ∷ 0 ∷ []) 1 (refused 11)
     ∷ []
 
+-- the row of a walk, or none
+rowOf : Drawn → List ℕ
+rowOf (hit v c) = v ∷ []
+rowOf miss = []
+
 -- what the operation comes to
 pub comes : Case → Outcome (List ℕ)
 comes (writes m n entries o) = writeOf m n entries (fileLength m n)
 comes (reads file o) = mapped (λ M. M .entries) (readOf file 16384)
-comes (builds usage weights n o) = entriesOf (buildOf usage weights n (fileLength (length weights) n))
-  where
-    entriesOf : Outcome (List ℕ) → Outcome (List ℕ)
-    entriesOf (refused k) = refused k
-    entriesOf (gives file) = mapped (λ M. M .entries) (matrixOf file)
+comes (builds usage weights n o) = buildOf usage weights n (fileLength (length weights) n) >>= λ file. mapped (λ M. M .entries) (matrixOf file)
+comes (walks file string o) = mapped rowOf (walkOf file string)
+comes (builds-walks usage weights n string o) =
+    buildOf usage weights n (fileLength (length weights) n) >>= λ file. mapped rowOf (walkOf file string)
 
 pub must : Case → Outcome (List ℕ)
 must (writes m n entries o) = o
 must (reads file o) = o
 must (builds usage weights n o) = o
+must (walks file string o) = o
+must (builds-walks usage weights n string o) = o
 
 -- ---- the test
 same : List ℕ → List ℕ → Bool
@@ -113,5 +135,5 @@ all-come (c ∷ cs) e =
 
 -- ---- the table holds
 pub cases-hold : All-come cases
-unfolding cases comes must all-agree agrees same fieldOf packedBit padded packed spare bit p total headerBytes matrixFile headerOf unpacked bodyOf matrixOf readOf writeOf sum share built buildOf sumTo any number digit blocks upto
+unfolding cases comes must all-agree agrees same fieldOf packedBit padded packed spare bit p total headerBytes matrixFile headerOf unpacked bodyOf matrixOf readOf writeOf sum share built buildOf stringsOf rowOf at scan then walk drawn walkOf sumTo any number digit blocks upto
 cases-hold = all-come cases refl
