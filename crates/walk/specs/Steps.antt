@@ -109,6 +109,38 @@ walk-inside bit m c d (b ∷ bs) =
     (scan-below (λ v. bit v c) m (2 * d + b))
     (λ x. subst (λ (k : ℕ). Inside m (suc c) k (walk bit m (suc c) x bs)) e (walk-inside bit m (suc c) x bs))
 
+-- ---- a row that is hit has a 1 in the column of the hit
+abbrev Set : (ℕ → ℕ) → Place → Type 0
+Set column (found row) = 0 < column row
+Set column (left d) = Unit {0}
+
+at-set : (column : ℕ → ℕ) (b row d : ℕ) (go : ℕ → Place) → b ≡ column row → ((e : ℕ) → Set column (go e)) → Set column (at b row d go)
+unfolding at
+at-set column zero row d go h f = f d
+at-set column (suc b) row zero go h f = omega arith
+at-set column (suc b) row (suc d) go h f = f d
+
+scan-set : (column : ℕ → ℕ) (r d : ℕ) → Set column (scan column r d)
+unfolding scan
+scan-set column zero d = tt
+scan-set column (suc r) d = at-set column (column r) r d (λ e. scan column r e) refl (λ e. scan-set column r e)
+
+abbrev pub On : (ℕ → ℕ → ℕ) → Drawn → Type 0
+On bit (hit row column) = 0 < bit row column
+On bit miss = Unit {0}
+
+then-on : (bit : ℕ → ℕ → ℕ) (c : ℕ) (o : Place) (go : ℕ → Drawn) → Set (λ v. bit v c) o → ((e : ℕ) → On bit (go e)) → On bit (then c o go)
+unfolding then
+then-on bit c (found row) go h f = h
+then-on bit c (left d) go h f = f d
+
+pub walk-on : (bit : ℕ → ℕ → ℕ) (m c d : ℕ) (bs : List ℕ) → On bit (walk bit m c d bs)
+unfolding walk
+walk-on bit m c d [] = tt
+walk-on bit m c d (b ∷ bs) =
+    then-on bit c (scan (λ v. bit v c) m (2 * d + b)) (λ x. walk bit m (suc c) x bs) (scan-set (λ v. bit v c) m (2 * d + b))
+    (λ x. walk-on bit m (suc c) x bs)
+
 -- ---- only the bits of the m rows and of the columns walked count
 at-eq : (b row d : ℕ) (go go′ : ℕ → Place) → ((e : ℕ) → go e ≡ go′ e) → at b row d go ≡ at b row d go′
 unfolding at

@@ -17,8 +17,8 @@ use Rattle.files.specs.Files.{matrixOf}
 use Rattle.files.specs.Live.{total-from}
 use Rattle.files.specs.RoundTrip.{read-accepted}
 use Rattle.files.specs.Strings.{stringsOf}
-use Rattle.walk.specs.Walk.{hit, drawn, walkOf, hits, misses}
-use Rattle.walk.specs.Steps.{Inside, walk-inside}
+use Rattle.walk.specs.Walk.{Drawn, hit, drawn, walkOf, hits, misses}
+use Rattle.walk.specs.Steps.{Inside, walk-inside, On, walk-on}
 use Rattle.walk.specs.Strings.{Bits, strings, over, one-if, count, count-eq}
 use Rattle.walk.specs.Packed.{pack, pack-sound, pack-bits, bit-front, string-front}
 use Rattle.walk.specs.Matrices.{bits-of, same-matrix}
@@ -60,6 +60,11 @@ unfolding drawn
 hit-inside M s v c e =
     let i = subst (Inside (M .rows) 0 (0 + length s)) e (walk-inside (bit M) (M .rows) 0 0 s) in
     (i .0, omega (arith, i .2))
+
+-- a row is hit only where it has a 1
+pub hit-set : (M : Matrix) (s : List ℕ) (v c : ℕ) → drawn M s ≡ hit v c → 0 < bit M v c
+unfolding drawn
+hit-set M s v c e = subst (On (bit M)) e (walk-on (bit M) (M .rows) 0 0 s)
 
 -- ---- 2. matrices with equal m and n are equal exactly when all p_v are
 module _ (A B : Matrix) (a : Accepted A) (b : Accepted B) (m : A .rows ≡ B .rows) (n : A .columns ≡ B .columns) where
@@ -114,14 +119,21 @@ module _ (file : List ℕ) (M : Matrix) (e : matrixOf file ≡ gives M) where
       upto-eq n (bitOf (bytes ++ more) 0) (bitOf bytes 0) (λ i h. bit-front n bytes more l i (omega arith)) in
       rw (e, string-front (M .columns) bytes more l, b)
 
--- 1, 3. whatever the string, no other number is ever given: a row that is hit is below m, and its column below n
-pub file-inside : (file string : List ℕ) (M : Matrix) (v c : ℕ) → matrixOf file ≡ gives M → walkOf file string ≡ gives (hit v c) → (v < M .rows) × (c < M .columns)
-unfolding walkOf
-file-inside file string M v c e w =
-    let w′ : (stringsOf 1 (M .columns) string >> gives (drawn M (upto (M .columns) (bitOf string 0)))) ≡ gives (hit v c) = rw e at w in
-    let h = hit-inside M (upto (M .columns) (bitOf string 0)) v c (last (stringsOf 1 (M .columns) string) w′) in
-    (h .0, omega (arith, h .1, length-upto (M .columns) (bitOf string 0)))
-  where
-    last : (o : Outcome (Unit {0})) → (o >> gives (drawn M (upto (M .columns) (bitOf string 0)))) ≡ gives (hit v c) → drawn M (upto (M .columns) (bitOf string 0)) ≡ hit v c
-    last (refused n) q = absurd (let z : _≡_ {A = ℕ} 0 1 = cc in omega arith)
-    last (gives u) q = gives-inj q
+  -- a string that is given a draw is given its matrix's
+  file-drawn : (string : List ℕ) (r : Drawn) → walkOf file string ≡ gives r → drawn M (upto (M .columns) (bitOf string 0)) ≡ r
+  unfolding walkOf
+  file-drawn string r w = last (stringsOf 1 (M .columns) string) (rw e at w)
+    where
+      last : (o : Outcome (Unit {0})) → (o >> gives (drawn M (upto (M .columns) (bitOf string 0)))) ≡ gives r → drawn M (upto (M .columns) (bitOf string 0)) ≡ r
+      last (refused n) q = absurd (let z : _≡_ {A = ℕ} 0 1 = cc in omega arith)
+      last (gives u) q = gives-inj q
+
+  -- 1, 3. whatever the string, no other number is ever given: a row that is hit is below m, and its column below n
+  pub file-inside : (string : List ℕ) (v c : ℕ) → walkOf file string ≡ gives (hit v c) → (v < M .rows) × (c < M .columns)
+  file-inside string v c w =
+      let h = hit-inside M (upto (M .columns) (bitOf string 0)) v c (file-drawn string (hit v c) w) in
+      (h .0, omega (arith, h .1, length-upto (M .columns) (bitOf string 0)))
+
+  -- and the row has a 1 there
+  pub file-set : (string : List ℕ) (v c : ℕ) → walkOf file string ≡ gives (hit v c) → 0 < bit M v c
+  file-set string v c w = hit-set M (upto (M .columns) (bitOf string 0)) v c (file-drawn string (hit v c) w)

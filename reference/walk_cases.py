@@ -1,0 +1,169 @@
+#!/usr/bin/env python3
+"""Makes crates/walk_cases/stdin and stdout from the source documents: matrices, strings, and what 01's walk gives on them.
+
+Written from 01 and the papers alone, with exact integers and 120-digit decimals. Run it in the repository's root.
+"""
+import random
+from decimal import Decimal, getcontext
+
+getcontext().prec = 120
+chance = random.Random(20260)
+
+
+def walk(rows, n, bits):
+    """01, "Matrix and walk": the row that is hit, or None."""
+    d = 0
+    for c in range(n):
+        d = 2 * d + bits[c]
+        for v in range(len(rows) - 1, -1, -1):
+            if rows[v] >> (n - 1 - c) & 1:
+                if d == 0:
+                    return v
+                d -= 1
+    return None
+
+
+def packed(x, n):
+    """n bits of x, the first in the highest bit of the first byte, spare low bits 0."""
+    width = (n + 7) // 8
+    return (x << (8 * width - n)).to_bytes(width, "big")
+
+
+def matrix_file(rows, n):
+    body = b"".join(packed(r, n) for r in rows)
+    head = [8 + len(body), 32, len(rows), n]
+    return b"".join(x.to_bytes(2, "little") for x in head) + body
+
+
+def bits_of(x, n):
+    return [x >> (n - 1 - i) & 1 for i in range(n)]
+
+
+def string_for(rows, n, v, c):
+    """A string that ends the walk in row v, column c, read backwards from there; the bits after column c are 0."""
+    ones = [sum(r >> (n - 1 - i) & 1 for r in rows) for i in range(n)]
+    d = sum(rows[u] >> (n - 1 - c) & 1 for u in range(v + 1, len(rows)))
+    bits = [0] * n
+    for i in range(c, -1, -1):
+        bits[i] = d % 2
+        d = d // 2 + (ones[i - 1] if i else 0)
+    assert d == 0
+    return sum(b << (n - 1 - i) for i, b in enumerate(bits))
+
+
+class Cases:
+    def __init__(self):
+        self.lines, self.printed = [], []
+
+    def note(self, text):
+        self.lines.append("# " + text)
+        self.printed.append("# " + text)
+
+    def matrix(self, rows, n):
+        assert all(0 <= r < 2**n for r in rows) and sum(rows) <= 2**n
+        self.rows, self.n = rows, n
+        self.lines.append("m " + matrix_file(rows, n).hex())
+
+    def string(self, x):
+        text = packed(x, self.n).hex()
+        hit = walk(self.rows, self.n, bits_of(x, self.n))
+        self.lines.append("s " + text)
+        self.printed.append(text + " " + ("miss" if hit is None else str(hit)))
+        return hit
+
+    def total(self):
+        self.lines.append("t")
+        total = sum(self.rows)
+        self.printed.append("%x" % (total >> self.n) + (total % 2**self.n).to_bytes((self.n + 7) // 8, "big").hex())
+
+    def highest(self, columns):
+        top = max(v for v, r in enumerate(self.rows) if r >> (self.n - columns))
+        self.lines.append("h %02x" % columns)
+        self.printed.append(str(top))
+        return top
+
+    def each_row(self):
+        """For each row that is not 0, a string that hits it in its first 1, and one for another of its ones."""
+        for v, r in enumerate(self.rows):
+            columns = [c for c in range(self.n) if r >> (self.n - 1 - c) & 1]
+            for c in dict.fromkeys(columns[:1] + chance.sample(columns, min(1, len(columns)))):
+                assert self.string(string_for(self.rows, self.n, v, c)) == v
+
+    def at_random(self, count):
+        return [self.string(chance.getrandbits(self.n)) for _ in range(count)]
+
+
+def hand(cases):
+    cases.note("01, Checked by hand: one row 0: both miss")
+    cases.matrix([0], 1)
+    assert [cases.string(x) for x in (0, 1)] == [None, None]
+
+
+def table_5(cases):
+    """Source document 004, table 5: CDT(z) counts what lies above z, out of 2^80."""
+    cdt = [
+        519416855270223991024635, 101208528248637278136991, 7893637264903720998210, 233884566914685871813, 2580077773372372849,
+        10517004221616016, 15796660852944, 8733832501, 1776829, 132,
+    ]
+    above = [2**80] + cdt + [0]
+    rows = [a - b for a, b in zip(above, above[1:])]
+    assert len(rows) == 11 and sum(rows) == 2**80
+    cases.note("source document 004, table 5: 11 rows of 80 columns; T is 2^80")
+    cases.matrix(rows, 80)
+    cases.total()
+    cases.note("a string for each row, the first and the last string, and strings at random: none misses")
+    cases.each_row()
+    assert None not in [cases.string(0), cases.string(2**80 - 1)] + cases.at_random(60)
+
+
+def look_up(cases):
+    """Source document 001, section 5.2, with its bits complemented."""
+    w = sum(Decimal(2) ** (-i * i) for i in range(18))
+    top = int(Decimal(2) ** 128 / w)
+    assert "%x" % top == "a3a2446c95b5b00985dbb564c791ff8b"
+    rows = [top >> v * v for v in range(12)]
+    cases.note("source document 001, section 5.2: 12 rows of 128 columns; 0.. gives 0, 10.. gives 1, 110.. gives 0, 111.. needs more bits")
+    cases.matrix(rows, 128)
+    for start, length, row in ((0b0, 1, 0), (0b10, 2, 1), (0b110, 3, 0)):
+        for _ in range(8):
+            assert cases.string(start << (128 - length) | chance.getrandbits(128 - length)) == row
+    assert len({cases.string(0b111 << 125 | chance.getrandbits(125)) for _ in range(16)}) > 1
+    cases.each_row()
+    cases.note("its first 3 columns: only 111 misses")
+    cases.matrix([r >> 125 for r in rows], 3)
+    assert [cases.string(x) for x in range(8)] == [0, 0, 0, 0, 1, 1, 0, None]
+    cases.note("its first 8 columns: only the strings that begin with seven ones miss, and the others that begin with 111 give 0, 1 or 2")
+    cases.matrix([r >> 120 for r in rows], 8)
+    hits = [cases.string(x) for x in range(256)]
+    assert hits[254:] == [None, None] and set(hits[:224]) == {0, 1} and set(hits[224:254]) == {0, 1, 2}
+
+
+def gaussian(cases):
+    """Source document 002: distances of the discrete Gaussian of deviation 6.15543 up to 14 deviations."""
+    sigma = Decimal("6.15543")
+    weights = [(-Decimal(v * v) / (2 * sigma * sigma)).exp() for v in range(400)]
+    whole = 2 * sum(weights) - 1
+    rows = [int((1 if v == 0 else 2) * weights[v] / whole * 2**128) for v in range(87)]
+    cases.note("source document 002, deviation 6.15543: 87 rows of 128 columns; the highest row within 32 columns, then within 64")
+    cases.matrix(rows, 128)
+    assert cases.highest(32) == 39 and cases.highest(64) == 56
+    cases.total()
+    cases.each_row()
+    cases.at_random(40)
+    for columns, most in ((32, 39), (64, 56)):
+        cases.note("its first %d columns: no row above %d" % (columns, most))
+        cases.matrix([r >> (128 - columns) for r in rows], columns)
+        cases.each_row()
+        assert all(hit is None or hit <= most for hit in cases.at_random(60) + [cases.string(2**columns - 1)])
+
+
+def main():
+    cases = Cases()
+    for part in (hand, table_5, look_up, gaussian):
+        part(cases)
+    for name, lines in (("stdin", cases.lines), ("stdout", cases.printed)):
+        with open("crates/walk_cases/" + name, "w", encoding="ascii") as f:
+            f.write("\n".join(lines) + "\n")
+
+
+main()
