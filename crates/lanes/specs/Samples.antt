@@ -1,0 +1,134 @@
+-- 01, "Runs, words, samples": what a lane of the outputs gives, and how samples and signed samples write it. Assumes nothing.
+use Prim.Native.Nat.{ℕ, zero, suc, _+_, _-_, _*_, _/_, _%_, _^_, _≤_, _<_}
+use mathlib.Core.Path.{_≡_, refl, sym, ap, _∙_, subst}
+use mathlib.Core.Bool.{Bool, true, false, cond}
+use mathlib.Core.List.{List, []}
+use native.Mathlib.Omega.{arith}
+use borrow.Author.Tests.{eq-eqb, ne-eqb, lt-ltb, le-ltb}
+use mir.Facts.{toZ-pos, toZ-ofZ}
+use mir.Syntax.{w16}
+use mir.Val.{SFits, toZ, ofZ}
+use lib.Dec.{eqb, ltb, lit<}
+use lib.IntN.{ℤ, pos, negℤ, _-ℤ_, +ℤ-idl}
+use lib.ListN.{length, getD}
+use Rattle.laws.specs.Words.{bitAt, pack, Packed, packed-done}
+use Rattle.laws.specs.Lay.{lay, upto}
+use Rattle.laws.specs.Outcome.{Outcome, refused, gives, refuse, _>>_}
+use Rattle.files.specs.Matrix.{outside}
+use Rattle.files.specs.Refusal.{numberOf}
+use Rattle.lanes.specs.Slicing.{lanes}
+use Rattle.lanes.specs.declared.sampling.Sampled.{Sampled}
+use Rattle.lanes.specs.declared.sampling.Sampled.the-variants as Sampled
+
+-- the limit: 1 to 8 output words
+abbrev pub most-outputs : ℕ
+most-outputs = 8
+
+-- what a lane of the outputs gives
+pub data Given : Type 0 where
+  sample : ℕ → Given
+  missed : Given
+
+-- the number that bit j of outputs 1 and up spells, lowest first
+unfoldable pub spelled : List ℕ → ℕ → ℕ
+spelled outputs j = pack (length outputs - 1) (λ t. bitAt (getD outputs (t + 1) 0) j)
+
+-- if bit j of output 0 is set, the sample that bit j of outputs 1 and up spells; if not, it misses
+unfoldable pub sampleOf : List ℕ → ℕ → Given
+sampleOf outputs j = cond (eqb (bitAt (getD outputs 0 0) j) 1) (sample (spelled outputs j)) missed
+
+-- as a sample: the number, or 255
+abbrev pub code : Given → ℕ
+code (sample x) = x
+code missed = 255
+
+-- x, negated if the bit is set
+abbrev pub negatedIf : ℕ → ℕ → ℤ
+negatedIf bit x = cond (eqb bit 1) (negℤ (pos x)) (pos x)
+
+-- as a signed sample: the number, negated if the lane's bit of the sign word is set, or 32,767
+abbrev pub signedCode : ℕ → Given → ℤ
+signedCode bit (sample x) = negatedIf bit x
+signedCode bit missed = pos 32767
+
+-- reading a number from each lane of the outputs into a buffer of `room` places: the 64 numbers that are laid down
+unfoldable pub eachLane : {A : Type 0} → List ℕ → ℕ → (ℕ → A) → Outcome (List A)
+eachLane outputs room number = do
+  refuse 3 (outside most-outputs (length outputs))
+  refuse 13 (ltb room lanes)
+  gives (upto lanes number)
+
+abbrev pub samplesOf : List ℕ → ℕ → Outcome (List ℕ)
+samplesOf outputs room = eachLane outputs room (λ j. code (sampleOf outputs j))
+
+abbrev pub signedSamplesOf : List ℕ → ℕ → ℕ → Outcome (List ℤ)
+signedSamplesOf outputs sign room = eachLane outputs room (λ j. signedCode (bitAt sign j) (sampleOf outputs j))
+
+-- the answer's cases in 01's numbers
+abbrev pub sampled : Sampled → Outcome (Unit {0})
+sampled (Sampled.Refused why) = refused (numberOf why)
+sampled Sampled.All = gives tt
+
+-- ---- what a lane gives, by its bit of output 0
+pub lane-hit : (outputs : List ℕ) (j : ℕ) → bitAt (getD outputs 0 0) j ≡ 1 → sampleOf outputs j ≡ sample (spelled outputs j)
+unfolding sampleOf
+lane-hit outputs j h = rw (eq-eqb (bitAt (getD outputs 0 0) j) 1 h)
+
+pub lane-miss : (outputs : List ℕ) (j : ℕ) → (bitAt (getD outputs 0 0) j ≡ 1 → ⊥) → sampleOf outputs j ≡ missed
+unfolding sampleOf
+lane-miss outputs j h = rw (ne-eqb (bitAt (getD outputs 0 0) j) 1 h)
+
+-- ---- the ways through the checks
+module _ {A : Type 0} (outputs : List ℕ) (room : ℕ) (number : ℕ → A) where
+  pub lanes-size : outside most-outputs (length outputs) ≡ true → eachLane outputs room number ≡ refused 3
+  unfolding eachLane
+  lanes-size a = rw a
+
+  pub lanes-short : outside most-outputs (length outputs) ≡ false → room < lanes → eachLane outputs room number ≡ refused 13
+  unfolding eachLane
+  lanes-short a b = rw (a, lt-ltb room lanes b)
+
+  pub lanes-give : outside most-outputs (length outputs) ≡ false → lanes ≤ room → eachLane outputs room number ≡ gives (upto lanes number)
+  unfolding eachLane
+  lanes-give a b = rw (a, le-ltb room lanes b)
+
+-- ---- the same in the code's words, where `bit` is the lane's bit of output 0
+pub number-done : (outputs : List ℕ) (j t x : ℕ) → t ≤ length outputs - 1 → length outputs - 1 ≤ t →
+    Packed (λ t. bitAt (getD outputs (t + 1) 0) j) t x → x ≡ spelled outputs j
+unfolding spelled
+number-done outputs j t x a b p = packed-done (λ t. bitAt (getD outputs (t + 1) 0) j) t (length outputs - 1) x a b p
+
+module _ (outputs : List ℕ) (j bit : ℕ) (e : bit ≡ bitAt (getD outputs 0 0) j) where
+  pub code-hit : (x : ℕ) → bit ≡ 1 → x ≡ spelled outputs j → x ≡ code (sampleOf outputs j)
+  code-hit x h q = rw (lane-hit outputs j (sym e ∙ h)) q
+
+  pub code-miss : (bit ≡ 1 → ⊥) → 255 ≡ code (sampleOf outputs j)
+  code-miss h = rw (lane-miss outputs j (λ q. h (e ∙ q)))
+
+  pub signed-hit : (sign s x : ℕ) (z : ℤ) → bit ≡ 1 → s ≡ bitAt sign j → x ≡ spelled outputs j → z ≡ negatedIf s x →
+      z ≡ signedCode (bitAt sign j) (sampleOf outputs j)
+  signed-hit sign s x z h es ex ez = rw (lane-hit outputs j (sym e ∙ h), ← es, ← ex) ez
+
+  pub signed-miss : (sign : ℕ) → (bit ≡ 1 → ⊥) → pos 32767 ≡ signedCode (bitAt sign j) (sampleOf outputs j)
+  signed-miss sign h = rw (lane-miss outputs j (λ q. h (e ∙ q)))
+
+-- ---- negation in 16 bits
+-- a number that fits is kept
+pub kept : (z z′ : ℤ) → SFits w16 z → z ≡ z′ → toZ w16 (ofZ w16 z) ≡ z′
+kept z z′ h e = toZ-ofZ {w = w16} {z = z} h ∙ e
+
+minus-is : (x : ℕ) → x < 256 → pos 0 -ℤ toZ w16 x ≡ negℤ (pos x)
+minus-is x h = rw (toZ-pos w16 {n = x} (omega arith)) (+ℤ-idl (negℤ (pos x)))
+
+minus-small : (x : ℕ) → x < 256 → SFits w16 (negℤ (pos x))
+minus-small zero h = record { sfits = lit< tt }
+minus-small (suc x) h = record { sfits = omega arith }
+
+pub minus-fits : (x : ℕ) → x < 256 → SFits w16 (pos 0 -ℤ toZ w16 x)
+minus-fits x h = rw (minus-is x h) (minus-small x h)
+
+pub negated : (bit x : ℕ) → x < 256 → bit ≡ 1 → toZ w16 (ofZ w16 (pos 0 -ℤ toZ w16 x)) ≡ negatedIf bit x
+negated bit x l h = rw (eq-eqb bit 1 h, toZ-ofZ {w = w16} {z = pos 0 -ℤ toZ w16 x} (minus-fits x l)) (minus-is x l)
+
+pub not-negated : (bit x : ℕ) → x < 256 → (bit ≡ 1 → ⊥) → toZ w16 x ≡ negatedIf bit x
+not-negated bit x l h = rw (ne-eqb bit 1 h) (toZ-pos w16 {n = x} (omega arith))
