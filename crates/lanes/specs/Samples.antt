@@ -1,8 +1,8 @@
 -- 01, "Runs, words, samples": what a lane of the outputs gives, and how samples and signed samples write it. Assumes nothing.
-use Prim.Native.Nat.{ℕ, zero, suc, _+_, _-_, _*_, _/_, _%_, _^_, _≤_, _<_}
-use mathlib.Core.Path.{_≡_, refl, sym, ap, _∙_, subst}
+use Prim.Native.Nat.{ℕ, zero, suc, _+_, _-_, _≤_, _<_}
+use mathlib.Core.Path.{_≡_, _∙_}
 use mathlib.Core.Bool.{Bool, true, false, cond}
-use mathlib.Core.List.{List, []}
+use mathlib.Core.List.{List}
 use native.Mathlib.Omega.{arith}
 use borrow.Author.Tests.{eq-eqb, ne-eqb, lt-ltb, le-ltb}
 use mir.Facts.{toZ-pos, toZ-ofZ}
@@ -12,7 +12,7 @@ use lib.Dec.{eqb, ltb, lit<}
 use lib.IntN.{ℤ, pos, negℤ, _-ℤ_, +ℤ-idl}
 use lib.ListN.{length, getD}
 use Rattle.laws.specs.Words.{bitAt, pack, Packed, packed-done}
-use Rattle.laws.specs.Lay.{lay, upto}
+use Rattle.laws.specs.Lay.{upto}
 use Rattle.laws.specs.Outcome.{Outcome, refused, gives, refuse, _>>_}
 use Rattle.files.specs.Matrix.{outside}
 use Rattle.files.specs.Refusal.{numberOf}
@@ -29,13 +29,17 @@ pub data Given : Type 0 where
   sample : ℕ → Given
   missed : Given
 
+-- whether bit j of output 0 is set
+unfoldable pub hits : List ℕ → ℕ → Bool
+hits outputs j = eqb (bitAt (getD outputs 0 0) j) 1
+
 -- the number that bit j of outputs 1 and up spells, lowest first
 unfoldable pub spelled : List ℕ → ℕ → ℕ
 spelled outputs j = pack (length outputs - 1) (λ t. bitAt (getD outputs (t + 1) 0) j)
 
--- if bit j of output 0 is set, the sample that bit j of outputs 1 and up spells; if not, it misses
+-- If bit j of output 0 is set, lane j gives the sample that bit j of outputs 1 and up spells; if not, it misses.
 unfoldable pub sampleOf : List ℕ → ℕ → Given
-sampleOf outputs j = cond (eqb (bitAt (getD outputs 0 0) j) 1) (sample (spelled outputs j)) missed
+sampleOf outputs j = cond (hits outputs j) (sample (spelled outputs j)) missed
 
 -- as a sample: the number, or 255
 abbrev pub code : Given → ℕ
@@ -69,15 +73,6 @@ abbrev pub sampled : Sampled → Outcome (Unit {0})
 sampled (Sampled.Refused why) = refused (numberOf why)
 sampled Sampled.All = gives tt
 
--- ---- what a lane gives, by its bit of output 0
-pub lane-hit : (outputs : List ℕ) (j : ℕ) → bitAt (getD outputs 0 0) j ≡ 1 → sampleOf outputs j ≡ sample (spelled outputs j)
-unfolding sampleOf
-lane-hit outputs j h = rw (eq-eqb (bitAt (getD outputs 0 0) j) 1 h)
-
-pub lane-miss : (outputs : List ℕ) (j : ℕ) → (bitAt (getD outputs 0 0) j ≡ 1 → ⊥) → sampleOf outputs j ≡ missed
-unfolding sampleOf
-lane-miss outputs j h = rw (ne-eqb (bitAt (getD outputs 0 0) j) 1 h)
-
 -- ---- the ways through the checks
 module _ {A : Type 0} (outputs : List ℕ) (room : ℕ) (number : ℕ → A) where
   pub lanes-size : outside most-outputs (length outputs) ≡ true → eachLane outputs room number ≡ refused 3
@@ -92,25 +87,33 @@ module _ {A : Type 0} (outputs : List ℕ) (room : ℕ) (number : ℕ → A) whe
   unfolding eachLane
   lanes-give a b = rw (a, le-ltb room lanes b)
 
--- ---- the same in the code's words, where `bit` is the lane's bit of output 0
+-- ---- a lane as code reads it
+pub hit-read : (outputs : List ℕ) (j bit : ℕ) → bit ≡ bitAt (getD outputs 0 0) j → eqb bit 1 ≡ hits outputs j
+unfolding hits
+hit-read outputs j bit e = rw e
+
 pub number-done : (outputs : List ℕ) (j t x : ℕ) → t ≤ length outputs - 1 → length outputs - 1 ≤ t →
     Packed (λ t. bitAt (getD outputs (t + 1) 0) j) t x → x ≡ spelled outputs j
 unfolding spelled
 number-done outputs j t x a b p = packed-done (λ t. bitAt (getD outputs (t + 1) 0) j) t (length outputs - 1) x a b p
 
-module _ (outputs : List ℕ) (j bit : ℕ) (e : bit ≡ bitAt (getD outputs 0 0) j) where
-  pub code-hit : (x : ℕ) → bit ≡ 1 → x ≡ spelled outputs j → x ≡ code (sampleOf outputs j)
-  code-hit x h q = rw (lane-hit outputs j (sym e ∙ h)) q
+module _ (outputs : List ℕ) (j : ℕ) (hit : Bool) (e : hit ≡ hits outputs j) where
+  pub code-hit : (x : ℕ) → hit ≡ true → x ≡ spelled outputs j → x ≡ code (sampleOf outputs j)
+  unfolding sampleOf
+  code-hit x h q = rw (← e, h) q
 
-  pub code-miss : (bit ≡ 1 → ⊥) → 255 ≡ code (sampleOf outputs j)
-  code-miss h = rw (lane-miss outputs j (λ q. h (e ∙ q)))
+  pub code-miss : hit ≡ false → 255 ≡ code (sampleOf outputs j)
+  unfolding sampleOf
+  code-miss h = rw (← e, h)
 
-  pub signed-hit : (sign s x : ℕ) (z : ℤ) → bit ≡ 1 → s ≡ bitAt sign j → x ≡ spelled outputs j → z ≡ negatedIf s x →
+  pub signed-hit : (sign s x : ℕ) (z : ℤ) → hit ≡ true → s ≡ bitAt sign j → x ≡ spelled outputs j → z ≡ negatedIf s x →
       z ≡ signedCode (bitAt sign j) (sampleOf outputs j)
-  signed-hit sign s x z h es ex ez = rw (lane-hit outputs j (sym e ∙ h), ← es, ← ex) ez
+  unfolding sampleOf
+  signed-hit sign s x z h es ex ez = rw (← e, h, ← es, ← ex) ez
 
-  pub signed-miss : (sign : ℕ) → (bit ≡ 1 → ⊥) → pos 32767 ≡ signedCode (bitAt sign j) (sampleOf outputs j)
-  signed-miss sign h = rw (lane-miss outputs j (λ q. h (e ∙ q)))
+  pub signed-miss : (sign : ℕ) → hit ≡ false → pos 32767 ≡ signedCode (bitAt sign j) (sampleOf outputs j)
+  unfolding sampleOf
+  signed-miss sign h = rw (← e, h)
 
 -- ---- negation in 16 bits
 -- a number that fits is kept

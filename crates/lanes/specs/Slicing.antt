@@ -1,16 +1,15 @@
 -- 01, "Runs, words, samples": 64 strings of bits as words. Bit j of word i is bit i of string j. Assumes nothing.
-use Prim.Native.Nat.{ℕ, zero, suc, _+_, _-_, _*_, _/_, _%_, _^_, _≤_, _<_}
-use mathlib.Core.Path.{_≡_, refl, sym, ap, _∙_, subst}
-use mathlib.Core.List.{List, []}
+use Prim.Native.Nat.{ℕ, _+_, _*_, _≤_, _<_}
+use mathlib.Core.Path.{_≡_, refl, sym}
+use mathlib.Core.List.{List}
 use native.Mathlib.Omega.{arith}
 use borrow.Author.Tests.{lt-ltb, le-ltb, ltb-false}
-use lib.Bits.{bitAnd, bitOr}
 use lib.Dec.{ltb}
-use lib.ListN.{length, getD}
-use Rattle.laws.specs.Words.{bitAt, pack, bitAt-pack, Packed, packed-done}
+use lib.ListN.{length, take, drop}
+use Rattle.laws.specs.Words.{pack, Packed, packed-done}
 use Rattle.laws.specs.Places.{row-end}
-use Rattle.laws.specs.Lay.{lay, upto}
-use Rattle.laws.specs.Outcome.{Outcome, refused, gives, refuse, _>>_, passed, gives-inj}
+use Rattle.laws.specs.Lay.{upto}
+use Rattle.laws.specs.Outcome.{Outcome, refused, gives, refuse, _>>_, passed}
 use Rattle.files.specs.Fields.{bitOf, width}
 use Rattle.files.specs.Matrix.{outside, most-columns}
 use Rattle.files.specs.Refusal.{numberOf}
@@ -23,7 +22,11 @@ use Rattle.lanes.specs.declared.slicing.Sliced.the-variants as Sliced
 abbrev pub lanes : ℕ
 lanes = 64
 
--- word i of 64 strings of w bytes each, one after another
+-- string j of 64 strings of n bits, one after another
+unfoldable pub stringAt : ℕ → List ℕ → ℕ → List ℕ
+stringAt n strings j = take (width n) (drop (j * width n) strings)
+
+-- word i of 64 strings of w bytes each: bit j is bit i of string j
 unfoldable pub wordOf : List ℕ → ℕ → ℕ → ℕ
 wordOf strings w i = pack lanes (λ j. bitOf strings (j * w) i)
 

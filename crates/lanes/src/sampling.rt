@@ -1,12 +1,12 @@
 // Samples: output words to numbers, lane by lane (01, "Runs, words, samples").
 ghost use mathlib.Core.Path.{_≡_};
 ghost use Prim.Native.Nat.{_≤_, _<_};
-ghost use lib.ListN.{length, getD};
+ghost use lib.ListN.{length};
 ghost use Rattle.laws.specs.Lay.{lay};
 ghost use Rattle.laws.specs.Outcome.{laid, mapped};
 ghost use Rattle.laws.specs.Words.{bitAt};
 ghost use Rattle.lanes.specs.Slicing.{lanes};
-ghost use Rattle.lanes.specs.Samples.{code, most-outputs, negatedIf, sampled, sampleOf, samplesOf, signedCode, signedSamplesOf, spelled};
+ghost use Rattle.lanes.specs.Samples.{code, hits, most-outputs, negatedIf, sampled, sampleOf, samplesOf, signedCode, signedSamplesOf, spelled};
 use crate::slicing::LANES;
 use files::Refusal;
 
@@ -32,6 +32,14 @@ fn lane(word: u64, j: usize) -> u8
     ((word >> j) & 1) as u8
 }
 
+// Whether lane j hits: its bit of output 0.
+fn hit(outputs: &[u64], j: usize) -> bool
+    requires { ⌜ (j < lanes) × (1 ≤ length (now outputs)) ⌝ }
+    ensures { λ r. ⌜ r ≡ hits (now (outputs .entry)) j ⌝ }
+{
+    lane(outputs[0], j) == 1
+}
+
 // The number that lane j's bits of outputs 1 and up spell, lowest first.
 fn number(outputs: &[u64], j: usize) -> u8
     requires { ⌜ (j < lanes) × (1 ≤ length (now outputs)) × (length (now outputs) ≤ most-outputs) ⌝ }
@@ -49,7 +57,7 @@ fn sample(outputs: &[u64], j: usize) -> u8
     requires { ⌜ (j < lanes) × (1 ≤ length (now outputs)) × (length (now outputs) ≤ most-outputs) ⌝ }
     ensures { λ r. ⌜ r ≡ code (sampleOf (now (outputs .entry)) j) ⌝ }
 {
-    if lane(outputs[0], j) == 1 {
+    if hit(outputs, j) {
         number(outputs, j)
     } else {
         MISS
@@ -72,7 +80,7 @@ fn signed_sample(outputs: &[u64], sign: u64, j: usize) -> i16
     requires { ⌜ (j < lanes) × (1 ≤ length (now outputs)) × (length (now outputs) ≤ most-outputs) ⌝ }
     ensures { λ r. ⌜ r ≡ signedCode (bitAt sign j) (sampleOf (now (outputs .entry)) j) ⌝ }
 {
-    if lane(outputs[0], j) == 1 {
+    if hit(outputs, j) {
         negated_if(lane(sign, j), number(outputs, j))
     } else {
         SIGNED_MISS

@@ -2,7 +2,7 @@
 use Prim.Native.Nat.{ℕ, zero, suc, _+_, _-_, _*_, _/_, _%_, _^_, min, max, _≤_, _<_}
 use mathlib.Core.Path.{_≡_, refl, sym, ap, _∙_, subst}
 use mathlib.Core.Logic.{⊎-elim}
-use native.Mathlib.Nat.{pow-succ', eq-or-lt-of-le, le-of-suc-le-suc, le-dest, mod-eq-of-lt, mul-le-mul-right}
+use native.Mathlib.Nat.{zero-div, pow-succ', eq-or-lt-of-le, le-of-suc-le-suc, le-dest, mod-eq-of-lt, mul-le-mul-right}
 use native.Mathlib.Numerals.{add-one}
 use native.Mathlib.Omega.{arith}
 use lib.Bits.{bitAnd, bitOr, and-mask, and-shr, and-step, or-shr, or-step, or-shifted-r}
@@ -21,6 +21,10 @@ pack (suc k) f = f k * 2 ^ k + pack k f
 pub bitAt-lt : (x j : ℕ) → bitAt x j < 2
 unfolding bitAt
 bitAt-lt x j = omega arith
+
+pub bitAt-zero : (j : ℕ) → bitAt 0 j ≡ 0
+unfolding bitAt
+bitAt-zero j = rw zero-div
 
 -- by a shift and a mask
 pub bitAt-read : (x j : ℕ) → bitAnd (x / 2 ^ j) 1 ≡ bitAt x j

@@ -1,7 +1,6 @@
 -- `lanes::number` meets its contract: t bits are packed. Assumes nothing.
 use borrow.Author.Needs.{needs}
-use native.Mathlib.Omega.{arith}
-use Prim.Native.Nat.{_+_, _-_, _≤_, _<_}
+use Prim.Native.Nat.{_+_, _-_, _≤_}
 use lib.ListN.{length, getD}
 use Rattle.laws.specs.Words.{bitAt, Packed, packed-none, packed-more}
 use Rattle.lanes.specs.Samples.{number-done}
@@ -45,7 +44,8 @@ loop-less : tie.Need-loop-less Inv-loop μ-loop
 loop-less c = search needs
 
 loop-again : tie.Need-loop-again Inv-loop μ-loop
-loop-again c = (search needs, packed-more _ 8 _ _ _ (search needs) (c .lane .ensures .0) (c .lane .ensures .1) (c .before .before .before .loop .inv .1))
+loop-again c =
+    (search needs, packed-more _ 8 _ _ _ (search needs) (c .lane .ensures .0) (c .lane .ensures .1) (c .before .before .before .loop .inv .1))
 
 returns : tie.Need-returns Inv-loop μ-loop
 returns c = number-done _ _ _ _ (c .before .loop .inv .0) (c .loop-test .left) (c .before .loop .inv .1)

@@ -4,14 +4,11 @@ use Rattle.lanes.specs.Samples.{kept, signed-hit, signed-miss}
 use Rattle.lanes.proofs.sampling.signed_sample.Statement.{statement}
 use Rattle.lanes.proofs.sampling.signed_sample.Tie as tie
 
-shared-slice-read-lane : tie.Need-shared-slice-read-lane
-shared-slice-read-lane c = search needs
+hit-requires : tie.Need-hit-requires
+hit-requires c κs = search needs
 
 lane-requires : tie.Need-lane-requires
 lane-requires c κs = search needs
-
-lane-requires-2 : tie.Need-lane-requires-2
-lane-requires-2 c κs = search needs
 
 number-requires : tie.Need-number-requires
 number-requires c κs = search needs
@@ -20,19 +17,15 @@ negated-if-requires : tie.Need-negated-if-requires
 negated-if-requires c κs = search needs
 
 returns : tie.Need-returns
-returns c = kept _ _ (record { sfits = c .negated-if .ok }) (signed-hit _ _ _ (c .before .before .before .before .lane .ensures .0) _ _ _ _ (c .before .before .before .if1 .taken) (c .before .before .lane2 .ensures .0) (c .before .number .ensures) (c .negated-if .ensures))
+returns c =
+    kept _ _ (record { sfits = c .negated-if .ok })
+    (signed-hit _ _ _ (c .before .before .before .before .hit .ensures) _ _ _ _ (c .before .before .before .if1 .taken)
+    (c .before .before .lane .ensures .0) (c .before .number .ensures) (c .negated-if .ensures))
 
 returns-2 : tie.Need-returns-2
-returns-2 c = signed-miss _ _ _ (c .before .lane .ensures .0) _ (c .if1 .left)
+returns-2 c = signed-miss _ _ _ (c .before .hit .ensures) _ (c .if1 .left)
 
 pub signed-sample-spec : {M : Type 1} → statement M
 signed-sample-spec =
     tie.close
-    (tie.spec
-    shared-slice-read-lane
-    lane-requires
-    lane-requires-2
-    number-requires
-    negated-if-requires
-    returns
-    returns-2)
+    (tie.spec hit-requires lane-requires number-requires negated-if-requires returns returns-2)

@@ -1,8 +1,8 @@
 -- `lanes::put_words` meets its contract: i words are laid. Assumes nothing.
 use borrow.Author.Needs.{needs}
 use native.Mathlib.Omega.{arith}
-use mathlib.Core.Path.{_≡_, refl, sym, _∙_, ap}
-use Prim.Native.Nat.{_-_, _≤_, _<_}
+use mathlib.Core.Path.{_≡_}
+use Prim.Native.Nat.{_-_, _≤_}
 use Rattle.laws.specs.Lay.{Laid, upto, upto-none, laid-store, upto-done}
 use Rattle.files.specs.Fields.{width}
 use Rattle.lanes.specs.Slicing.{wordOf}
@@ -37,7 +37,11 @@ loop-less : tie.Need-loop-less Inv-loop μ-loop
 loop-less c = search needs
 
 loop-again : tie.Need-loop-again Inv-loop μ-loop
-loop-again c = (search needs, search needs, laid-store _ _ _ _ _ _ _ (omega arith) (search needs) (rw (c .before .before .loop .inv .1) at (c .word .ensures)) (c .before .before .loop .inv .2))
+loop-again c = (
+  search needs,
+  search needs,
+  laid-store _ _ _ _ _ _ _ (omega arith) (search needs) (rw (c .before .before .loop .inv .1) at (c .word .ensures)) (c .before .before .loop .inv .2),
+)
 
 same-length : tie.Need-same-length Inv-loop μ-loop
 same-length c = search needs

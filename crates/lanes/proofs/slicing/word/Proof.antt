@@ -1,7 +1,7 @@
--- `lanes::word` meets its contract: bits of j strings are packed. Assumes nothing.
+-- `lanes::word` meets its contract: the bits of j strings are packed. Assumes nothing.
 use borrow.Author.Needs.{needs}
 use native.Mathlib.Omega.{arith}
-use Prim.Native.Nat.{_-_, _*_, _/_, _≤_, _<_}
+use Prim.Native.Nat.{_-_, _*_, _/_, _≤_}
 use Rattle.laws.specs.Digits.{and-one}
 use Rattle.laws.specs.Words.{Packed, packed-none, packed-more}
 use Rattle.files.specs.Fields.{bitOf, bit-read}
@@ -19,13 +19,19 @@ loop-holds : tie.Need-loop-holds Inv-loop μ-loop
 loop-holds c = (search needs, packed-none _)
 
 mul-word : tie.Need-mul-word Inv-loop μ-loop
-mul-word c = record { fits = omega (arith, string-in (c .before .loop .j) (c .before .before .args .w) (c .before .before .args .i / 8) _ (c .loop-test .taken) (c .before .before .pre .0) (c .before .before .pre .1)) }
+mul-word c =
+    let s = c .before .before in
+    record { fits = omega (arith, string-in (c .before .loop .j) (s .args .w) (s .args .i / 8) _ (c .loop-test .taken) (s .pre .0) (s .pre .1)) }
 
 add-word : tie.Need-add-word Inv-loop μ-loop
-add-word c = record { fits = omega (arith, string-in (c .before .loop .j) (c .before .before .args .w) (c .before .before .args .i / 8) _ (c .loop-test .taken) (c .before .before .pre .0) (c .before .before .pre .1)) }
+add-word c =
+    let s = c .before .before in
+    record { fits = omega (arith, string-in (c .before .loop .j) (s .args .w) (s .args .i / 8) _ (c .loop-test .taken) (s .pre .0) (s .pre .1)) }
 
 shared-slice-read-word : tie.Need-shared-slice-read-word Inv-loop μ-loop
-shared-slice-read-word c = string-in (c .before .before .loop .j) (c .before .before .before .args .w) (c .before .before .before .args .i / 8) _ (c .before .loop-test .taken) (c .before .before .before .pre .0) (c .before .before .before .pre .1)
+shared-slice-read-word c =
+    let s = c .before .before .before in
+    string-in (c .before .before .loop .j) (s .args .w) (s .args .i / 8) _ (c .before .loop-test .taken) (s .pre .0) (s .pre .1)
 
 sub-word : tie.Need-sub-word Inv-loop μ-loop
 sub-word c = search needs
@@ -49,7 +55,8 @@ loop-less : tie.Need-loop-less Inv-loop μ-loop
 loop-less c = search needs
 
 loop-again : tie.Need-loop-again Inv-loop μ-loop
-loop-again c = (search needs, packed-more _ 64 _ _ _ (c .before .loop-test .taken) (bit-read _ _ _) (rw and-one (omega arith)) (c .before .before .loop .inv .1))
+loop-again c =
+    (search needs, packed-more _ lanes _ _ _ (c .before .loop-test .taken) (bit-read _ _ _) (rw and-one (omega arith)) (c .before .before .loop .inv .1))
 
 returns : tie.Need-returns Inv-loop μ-loop
 returns c = word-done _ _ _ _ _ (c .before .loop .inv .0) (c .loop-test .left) (c .before .loop .inv .1)
