@@ -1,5 +1,5 @@
 -- 01, "Runs, words, samples": what a lane of the outputs gives, and how samples and signed samples write it. Assumes nothing.
-use Prim.Native.Nat.{ℕ, zero, suc, _+_, _-_, _≤_, _<_}
+use Prim.Native.Nat.{ℕ, zero, suc, _+_, _-_, _*_, _%_, _^_, _≤_, _<_}
 use mathlib.Core.Path.{_≡_, _∙_}
 use mathlib.Core.Bool.{Bool, true, false, cond}
 use mathlib.Core.List.{List}
@@ -8,10 +8,11 @@ use borrow.Author.Tests.{eq-eqb, ne-eqb, lt-ltb, le-ltb}
 use mir.Facts.{toZ-pos, toZ-ofZ}
 use mir.Syntax.{w16}
 use mir.Val.{SFits, toZ, ofZ}
+use lib.Bits.{bitOr}
 use lib.Dec.{eqb, ltb, lit<}
 use lib.IntN.{ℤ, pos, negℤ, _-ℤ_, +ℤ-idl}
 use lib.ListN.{length, getD}
-use Rattle.laws.specs.Words.{bitAt, pack, Packed, packed-done}
+use Rattle.laws.specs.Words.{bitAt, pack, Packed, packed-more, packed-done}
 use Rattle.laws.specs.Lay.{upto}
 use Rattle.laws.specs.Outcome.{Outcome, refused, gives, refuse, _>>_}
 use Rattle.files.specs.Matrix.{outside}
@@ -62,9 +63,11 @@ eachLane outputs room number = do
   refuse 13 (ltb room lanes)
   gives (upto lanes number)
 
+-- reading samples: refusal 3 or 13, or the samples
 abbrev pub samplesOf : List ℕ → ℕ → Outcome (List ℕ)
 samplesOf outputs room = eachLane outputs room (λ j. code (sampleOf outputs j))
 
+-- reading signed samples, with a sign word
 abbrev pub signedSamplesOf : List ℕ → ℕ → ℕ → Outcome (List ℤ)
 signedSamplesOf outputs sign room = eachLane outputs room (λ j. signedCode (bitAt sign j) (sampleOf outputs j))
 
@@ -92,10 +95,21 @@ pub hit-read : (outputs : List ℕ) (j bit : ℕ) → bit ≡ bitAt (getD output
 unfolding hits
 hit-read outputs j bit e = rw e
 
-pub number-done : (outputs : List ℕ) (j t x : ℕ) → t ≤ length outputs - 1 → length outputs - 1 ≤ t →
-    Packed (λ t. bitAt (getD outputs (t + 1) 0) j) t x → x ≡ spelled outputs j
-unfolding spelled
-number-done outputs j t x a b p = packed-done (λ t. bitAt (getD outputs (t + 1) 0) j) t (length outputs - 1) x a b p
+-- the number is packed of the outputs from 1 to t - 1
+module _ (outputs : List ℕ) (j : ℕ) where
+  abbrev bits : ℕ → ℕ
+  bits t = bitAt (getD outputs (t + 1) 0) j
+
+  pub number-more : (t b x : ℕ) → 1 ≤ t → t ≤ 8 → b ≡ bitAt (getD outputs t 0) j → b < 2 →
+      Packed bits (t - 1) x → Packed bits (t + 1 - 1) (bitOr x ((b * 2 ^ (t - 1)) % 2 ^ 8))
+  number-more t b x l h e s p =
+      let back : t - 1 + 1 ≡ t = omega arith in
+      let on : t + 1 - 1 ≡ t - 1 + 1 = omega arith in
+      rw on (packed-more bits 8 (t - 1) b x (omega arith) (rw back e) s p)
+
+  pub number-done : (t x : ℕ) → t ≤ length outputs → length outputs ≤ t → Packed bits (t - 1) x → x ≡ spelled outputs j
+  unfolding spelled
+  number-done t x a b p = packed-done bits (t - 1) (length outputs - 1) x (omega arith) (omega arith) p
 
 module _ (outputs : List ℕ) (j : ℕ) (hit : Bool) (e : hit ≡ hits outputs j) where
   pub code-hit : (x : ℕ) → hit ≡ true → x ≡ spelled outputs j → x ≡ code (sampleOf outputs j)

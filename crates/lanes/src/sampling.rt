@@ -46,8 +46,8 @@ fn number(outputs: &[u64], j: usize) -> u8
     ensures { λ r. ⌜ r ≡ spelled (now (outputs .entry)) j ⌝ }
 {
     let mut number: u8 = 0;
-    for t in 0..outputs.len() - 1 {
-        number |= lane(outputs[t + 1], j) << t;
+    for t in 1..outputs.len() {
+        number |= lane(outputs[t], j) << (t - 1);
     }
     number
 }

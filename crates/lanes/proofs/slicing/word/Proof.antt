@@ -31,7 +31,7 @@ add-word c =
 shared-slice-read-word : tie.Need-shared-slice-read-word Inv-loop μ-loop
 shared-slice-read-word c =
     let s = c .before .before .before in
-    string-in (c .before .before .loop .j) (s .args .w) (s .args .i / 8) _ (c .before .loop-test .taken) (s .pre .0) (s .pre .1)
+    omega (arith, string-in (c .before .before .loop .j) (s .args .w) (s .args .i / 8) _ (c .before .loop-test .taken) (s .pre .0) (s .pre .1))
 
 sub-word : tie.Need-sub-word Inv-loop μ-loop
 sub-word c = search needs
