@@ -1,6 +1,7 @@
 -- What no single file format or machine owns, in the order in which one rests on another.
 pub mod Sums
 pub mod Digits
+pub mod Words
 pub mod Places
 pub mod Lay
 pub mod From

@@ -1,0 +1,71 @@
+-- `lanes::number` meets its contract: the bits of the outputs from 1 to t - 1 are packed. Assumes nothing.
+use borrow.Author.Needs.{needs}
+use Prim.Native.Nat.{_+_, _-_, _≤_}
+use lib.ListN.{length, getD}
+use Rattle.laws.specs.Words.{bitAt, Packed, packed-none}
+use Rattle.lanes.specs.Samples.{number-more, number-done}
+use Rattle.lanes.proofs.sampling.number.Statement.{statement}
+use Rattle.lanes.proofs.sampling.number.Tie as tie
+
+abbrev Inv-loop : tie.InvT-loop
+Inv-loop outputs j number₀ t₀ t-end number t =
+    (1 ≤ t) × (t ≤ length outputs) × Packed (λ t. bitAt (getD outputs (t + 1) 0) j) (t - 1) number
+
+abbrev μ-loop : tie.MeasureT-loop
+μ-loop outputs j number₀ t₀ t-end number t = length outputs - t
+
+loop-holds : tie.Need-loop-holds Inv-loop μ-loop
+loop-holds c = (search needs, search needs, packed-none _)
+
+mul-lane : tie.Need-mul-lane Inv-loop μ-loop
+mul-lane c = search needs
+
+shared-slice-read-lane : tie.Need-shared-slice-read-lane Inv-loop μ-loop
+shared-slice-read-lane c = search needs
+
+lane-requires : tie.Need-lane-requires Inv-loop μ-loop
+lane-requires c κs = search needs
+
+sub-number : tie.Need-sub-number Inv-loop μ-loop
+sub-number c = search needs
+
+cast-number : tie.Need-cast-number Inv-loop μ-loop
+cast-number c = search needs
+
+shl-number : tie.Need-shl-number Inv-loop μ-loop
+shl-number c = search needs
+
+add-t : tie.Need-add-t Inv-loop μ-loop
+add-t c = search needs
+
+loop-less : tie.Need-loop-less Inv-loop μ-loop
+loop-less c = search needs
+
+loop-again : tie.Need-loop-again Inv-loop μ-loop
+loop-again c = (
+  search needs,
+  search needs,
+  number-more (c .before .before .before .before .before .args .outputs .now) (c .before .before .before .before .before .args .j) _ _ _ (c .before .before .before .loop .inv .0) (search needs)
+      (c .lane .ensures .0) (c .lane .ensures .1) (c .before .before .before .loop .inv .2),
+)
+
+returns : tie.Need-returns Inv-loop μ-loop
+returns c = number-done (c .before .before .before .args .outputs .now) (c .before .before .before .args .j) _ _ (c .before .loop .inv .1) (c .loop-test .left) (c .before .loop .inv .2)
+
+pub number-spec : {M : Type 1} → statement M
+number-spec =
+    tie.close
+    (tie.spec
+    Inv-loop
+    μ-loop
+    loop-holds
+    mul-lane
+    shared-slice-read-lane
+    lane-requires
+    sub-number
+    cast-number
+    shl-number
+    add-t
+    loop-less
+    loop-again
+    returns)

@@ -1,0 +1,67 @@
+-- `lanes::put_words` meets its contract: i words are laid. Assumes nothing.
+use borrow.Author.Needs.{needs}
+use native.Mathlib.Omega.{arith}
+use mathlib.Core.Path.{_≡_}
+use Prim.Native.Nat.{_-_, _≤_}
+use Rattle.laws.specs.Lay.{Laid, upto, upto-none, laid-store, upto-done}
+use Rattle.files.specs.Fields.{width}
+use Rattle.lanes.specs.Slicing.{wordOf}
+use Rattle.lanes.proofs.slicing.put_words.Statement.{statement}
+use Rattle.lanes.proofs.slicing.put_words.Tie as tie
+
+abbrev Inv-loop : tie.InvT-loop
+Inv-loop strings n words₀ w i₀ words i = (i ≤ n) × (w ≡ width n) × Laid 0 (upto i (wordOf strings (width n))) words₀ words
+
+abbrev μ-loop : tie.MeasureT-loop
+μ-loop strings n words₀ w i₀ words i = n - i
+
+add-w : tie.Need-add-w Inv-loop μ-loop
+add-w c = search needs
+
+loop-holds : tie.Need-loop-holds Inv-loop μ-loop
+loop-holds c = (search needs, search needs, upto-none _ _ _)
+
+word-requires : tie.Need-word-requires Inv-loop μ-loop
+word-requires c κs = (omega arith, omega arith)
+
+mul-words : tie.Need-mul-words Inv-loop μ-loop
+mul-words c = search needs
+
+slice-write-words : tie.Need-slice-write-words Inv-loop μ-loop
+slice-write-words c = search needs
+
+add-i : tie.Need-add-i Inv-loop μ-loop
+add-i c = search needs
+
+loop-less : tie.Need-loop-less Inv-loop μ-loop
+loop-less c = search needs
+
+loop-again : tie.Need-loop-again Inv-loop μ-loop
+loop-again c = (
+  search needs,
+  search needs,
+  laid-store _ _ _ _ _ _ _ (omega arith) (search needs) (rw (c .before .before .loop .inv .1) at (c .word .ensures)) (c .before .before .loop .inv .2),
+)
+
+same-length : tie.Need-same-length Inv-loop μ-loop
+same-length c = search needs
+
+returns : tie.Need-returns Inv-loop μ-loop
+returns c = upto-done _ _ _ _ _ _ (c .before .loop .inv .0) (c .loop-test .left) (c .before .loop .inv .2)
+
+pub put-words-spec : {M : Type 1} → statement M
+put-words-spec =
+    tie.close
+    (tie.spec
+    Inv-loop
+    μ-loop
+    add-w
+    loop-holds
+    word-requires
+    mul-words
+    slice-write-words
+    add-i
+    loop-less
+    loop-again
+    same-length
+    returns)

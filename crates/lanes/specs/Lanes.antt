@@ -1,0 +1,224 @@
+-- What holds lane by lane of what the operations leave in the buffers lent. Assumes nothing.
+use Prim.Native.Nat.{ℕ, zero, suc, _+_, _-_, _*_, _/_, _%_, _^_, _≤_, _<_}
+use mathlib.Core.Path.{_≡_, refl, sym, ap, _∙_}
+use mathlib.Core.Bool.{Bool, true, false, cond}
+use mathlib.Core.List.{List}
+use mathlib.Core.Logic.{⊎-elim}
+use native.Mathlib.Nat.{zero-mul}
+use native.Mathlib.Omega.{arith}
+use borrow.Author.Tests.{le-ltb, ltb-false}
+use lib.Dec.{eqb, ltb}
+use lib.IntN.{ℤ, pos, negℤ, natAbs}
+use lib.Pow.{pow-mono}
+use lib.ListN.{length, getD, drop, length-take, length-drop, List·getD-append, List·getD-eq-default}
+use lib.Seq.{getD-take, getD-drop}
+use Rattle.laws.specs.Sums.{any, any-false, any-all}
+use Rattle.laws.specs.Digits.{number, digit, number-shift}
+use Rattle.laws.specs.Words.{bitAt, pack, bitAt-lt, bitAt-zero, bitAt-pack, pack-bits, pack-eq, pack-lt}
+use Rattle.laws.specs.Places.{lt-or-ge, row-end}
+use Rattle.laws.specs.Lay.{lay, upto, length-upto, getD-upto}
+use Rattle.laws.specs.Outcome.{Outcome, refused, gives, refuse, _>>_, gives-inj, laid, mapped, mapped-gives, passed}
+use Rattle.files.specs.Fields.{bitOf, packedBit, bit-le, spare, width}
+use Rattle.files.specs.Matrix.{outside, most-columns}
+use Rattle.files.specs.Strings.{stringsOf}
+use Rattle.lanes.specs.Slicing.{lanes, sliceOf, stringAt, wordOf}
+use Rattle.lanes.specs.Samples.{Given, sample, missed, code, eachLane, hits, most-outputs, sampleOf, sampled, samplesOf, signedCode, signedSamplesOf, spelled}
+use Rattle.lanes.specs.declared.sampling.Sampled.the-variants as Sampled
+
+-- what a result holds at a place is what the buffer holds there
+at-front : {A : Type 0} (xs buf : List A) (i : ℕ) (d : A) → i < length xs → getD (lay xs buf) i d ≡ getD xs i d
+unfolding lay
+at-front xs buf i d h = List·getD-append xs (drop (length xs) buf) d i h
+
+-- ---- slicing
+-- bit j of word i is bit i of string j
+pub lane-of-word : (strings : List ℕ) (w i j : ℕ) → j < lanes → bitAt (wordOf strings w i) j ≡ bitOf strings (j * w) i
+unfolding wordOf
+lane-of-word strings w i j h = bitAt-pack lanes (λ j. bitOf strings (j * w) i) j (λ j l. omega (arith, bit-le 8 strings (j * w) i)) h
+
+pub word-lt : (strings : List ℕ) (w i : ℕ) → wordOf strings w i < 2 ^ lanes
+unfolding wordOf
+word-lt strings w i = pack-lt lanes (λ j. bitOf strings (j * w) i) (λ j l. omega (arith, bit-le 8 strings (j * w) i))
+
+-- what slicing that gives words says of the strings, the room and the words
+pub record Cut (n : ℕ) (strings : List ℕ) (room : ℕ) (words : List ℕ) : Type 0 where
+  pub sound : stringsOf lanes n strings ≡ gives tt
+  pub fit : n ≤ room
+  pub is : words ≡ upto n (wordOf strings (width n))
+
+both : {A : Type 0} (o : Outcome (Unit {0})) (rest : Outcome A) (a : A) → (o >> rest) ≡ gives a → (o ≡ gives tt) × (rest ≡ gives a)
+both (refused k) rest a e = absurd (let z : _≡_ {A = ℕ} 0 1 = cc in omega arith)
+both (gives u) rest a e = (refl, e)
+
+pub cut : (n : ℕ) (strings : List ℕ) (room : ℕ) (words : List ℕ) → sliceOf n strings room ≡ gives words → Cut n strings room words
+unfolding sliceOf
+cut n strings room words e =
+    let c = both (stringsOf lanes n strings) (refuse 13 (ltb room n) >> gives (upto n (wordOf strings (width n)))) words e in
+    let d = passed 13 (ltb room n) (gives (upto n (wordOf strings (width n)))) words (c .1) in
+    record { sound = c .0; fit = ltb-false room n (d .0); is = sym (gives-inj (d .1)) }
+
+-- The lane law of slicing: where k words are answered, k is n, and of what the buffer then holds bit j of word i is bit i of string j.
+module _ (n : ℕ) (strings buf : List ℕ) (k : ℕ) (e : gives k ≡ mapped length (sliceOf n strings (length buf))) where
+  pub slice-many : k ≡ n
+  slice-many =
+      let g = mapped-gives length (sliceOf n strings (length buf)) k e in
+      sym (g .2) ∙ (ap length (cut n strings (length buf) (g .0) (g .1) .is) ∙ length-upto n (wordOf strings (width n)))
+
+  pub slice-lane : (i j : ℕ) → i < n → j < lanes →
+      bitAt (getD (lay (laid (λ xs. xs) (sliceOf n strings (length buf))) buf) i 0) j ≡ bitOf strings (j * width n) i
+  slice-lane i j h l =
+      let g = mapped-gives length (sliceOf n strings (length buf)) k e in
+      let c = cut n strings (length buf) (g .0) (g .1) in
+      rw (
+        g .1,
+        c .is,
+        at-front (upto n (wordOf strings (width n))) buf i 0 (omega (arith, length-upto n (wordOf strings (width n)))),
+        getD-upto n (wordOf strings (width n)) i 0 h,
+      )
+      (lane-of-word strings (width n) i j l)
+
+-- string j by itself has the bits that lane j carries
+pub string-bit : (n : ℕ) (strings : List ℕ) (j i : ℕ) → i < 8 * width n → bitOf (stringAt n strings j) 0 i ≡ bitOf strings (j * width n) i
+unfolding stringAt packedBit
+string-bit n strings j i h =
+    ap (λ (x : ℕ). digit 8 x (i % 8))
+    (getD-take (width n) (drop (j * width n) strings) (0 + i / 8) 0 (omega arith) ∙
+    (getD-drop (j * width n) strings (0 + i / 8) 0 ∙ ap (λ (q : ℕ). getD strings q 0) (omega arith)))
+
+string-spare : (n : ℕ) (strings : List ℕ) (j v : ℕ) → v < 1 → spare (stringAt n strings j) n (v * width n) ≡ spare strings n (j * width n)
+unfolding spare
+string-spare n strings j v h =
+    let first : v * width n ≡ 0 = ap (λ (x : ℕ). x * width n) (omega arith) ∙ zero-mul (width n) in
+    let same : number (bitOf (stringAt n strings j) 0) n (8 * width n - n) ≡ number (bitOf strings (j * width n)) n (8 * width n - n) =
+    number-shift (bitOf (stringAt n strings j) 0) (bitOf strings (j * width n)) n n (8 * width n - n)
+    (λ i l. string-bit n strings j (n + i) (omega arith)) in
+    rw (first, same)
+
+length-string : (n : ℕ) (strings : List ℕ) (j : ℕ) → j < lanes → lanes * width n ≤ length strings → length (stringAt n strings j) ≡ width n
+unfolding stringAt
+length-string n strings j h l =
+    simp (length-take, length-drop) (omega (arith, row-end {v = j} {m = lanes} {size = length strings} (width n) (width n) h refl l))
+
+not-refused : (k : ℕ) (test : Bool) (u : Unit {0}) → refuse k test ≡ gives u → test ≡ false
+not-refused k true u e = absurd (let z : _≡_ {A = ℕ} 0 1 = cc in omega arith)
+not-refused k false u e = refl
+
+-- each of the strings that slicing takes is one that a walk takes
+pub string-sound : (n : ℕ) (strings : List ℕ) (j : ℕ) → j < lanes → stringsOf lanes n strings ≡ gives tt →
+    stringsOf 1 n (stringAt n strings j) ≡ gives tt
+unfolding stringsOf
+string-sound n strings j h e =
+    let c1 = passed 3 (outside most-columns n) _ tt e in
+    let c2 = passed 13 (ltb (length strings) (lanes * width n)) _ tt (c1 .1) in
+    let c3 = not-refused 5 (any lanes (λ v. spare strings n (v * width n))) tt (c2 .1) in
+    let long : length (stringAt n strings j) ≡ width n = length-string n strings j h (ltb-false (length strings) (lanes * width n) (c2 .0)) in
+    let clear : any 1 (λ v. spare (stringAt n strings j) n (v * width n)) ≡ false =
+    any-all 1 (λ v. spare (stringAt n strings j) n (v * width n))
+    (λ v l. string-spare n strings j v l ∙ any-false lanes j (λ v. spare strings n (v * width n)) c3 h) in
+    rw (c1 .0, le-ltb (length (stringAt n strings j)) (1 * width n) (omega (arith, long)), clear)
+
+-- ---- samples
+-- A lane misses where its bit of output 0 is clear. It gives v where that is set and its bits of outputs 1 and up are v's, lowest first.
+pub lane-clear : (outputs : List ℕ) (j : ℕ) → bitAt (getD outputs 0 0) j ≡ 0 → sampleOf outputs j ≡ missed
+unfolding sampleOf hits
+lane-clear outputs j h = rw h
+
+pub lane-spells : (outputs : List ℕ) (j v : ℕ) → bitAt (getD outputs 0 0) j ≡ 1 → v < 2 ^ (length outputs - 1) →
+    ((t : ℕ) → t < length outputs - 1 → bitAt (getD outputs (t + 1) 0) j ≡ bitAt v t) → sampleOf outputs j ≡ sample v
+unfolding sampleOf hits spelled
+lane-spells outputs j v h l e =
+    rw h
+    (ap sample (pack-eq (length outputs - 1) (λ t. bitAt (getD outputs (t + 1) 0) j) (bitAt v) e ∙ pack-bits (length outputs - 1) v l))
+
+-- What a lane gives depends on that lane's bits alone, wherever the lane lies and whatever the others hold.
+pub same-lane : (a b : List ℕ) (i j : ℕ) → length a ≡ length b → ((t : ℕ) → t < length a → bitAt (getD a t 0) i ≡ bitAt (getD b t 0) j) →
+    sampleOf a i ≡ sampleOf b j
+unfolding sampleOf hits spelled
+same-lane a b i j len e =
+    rw (each 0, pack-eq (length a - 1) (λ t. bitAt (getD a (t + 1) 0) i) (λ t. bitAt (getD b (t + 1) 0) j) (λ t l. each (t + 1)), len)
+  where
+    each : (t : ℕ) → bitAt (getD a t 0) i ≡ bitAt (getD b t 0) j
+    each t =
+        ⊎-elim (λ (l : t < length a). e t l)
+        (λ (l : length a ≤ t).
+        rw (List·getD-eq-default a 0 {n = t} l, List·getD-eq-default b 0 {n = t} (omega arith)) (bitAt-zero i ∙ sym (bitAt-zero j)))
+        (lt-or-ge t (length a))
+
+-- what reading that gives numbers leaves in the buffer
+module _ {A : Type 0} (outputs : List ℕ) (buf : List A) (f : ℕ → A)
+    (e : sampled Sampled.All ≡ mapped (λ xs. tt) (eachLane outputs (length buf) f)) where
+  lanes-given : eachLane outputs (length buf) f ≡ gives (upto lanes f)
+  unfolding eachLane
+  lanes-given =
+      let g = mapped-gives (λ xs. tt {0}) (eachLane outputs (length buf) f) tt e in
+      let c1 = passed 3 (outside most-outputs (length outputs)) (refuse 13 (ltb (length buf) lanes) >> gives (upto lanes f)) (g .0) (g .1) in
+      let c2 = passed 13 (ltb (length buf) lanes) (gives (upto lanes f)) (g .0) (c1 .1) in
+      g .1 ∙ sym (c2 .1)
+
+  lane-read : (j : ℕ) (d : A) → j < lanes → getD (lay (laid (λ xs. xs) (eachLane outputs (length buf) f)) buf) j d ≡ f j
+  lane-read j d h = rw (lanes-given, at-front (upto lanes f) buf j d (omega (arith, length-upto lanes f))) (getD-upto lanes f j d h)
+
+-- Where lane j of the outputs gives g, sample j is g's code; and with a sign word, its signed code.
+pub samples-say : (outputs buf : List ℕ) → sampled Sampled.All ≡ mapped (λ xs. tt) (samplesOf outputs (length buf)) →
+    (j : ℕ) (g : Given) → j < lanes → sampleOf outputs j ≡ g → getD (lay (laid (λ xs. xs) (samplesOf outputs (length buf))) buf) j 0 ≡ code g
+samples-say outputs buf e j g h q = lane-read outputs buf (λ j. code (sampleOf outputs j)) e j 0 h ∙ ap code q
+
+pub signed-say : (outputs : List ℕ) (sign : ℕ) (buf : List ℤ) → sampled Sampled.All ≡ mapped (λ xs. tt) (signedSamplesOf outputs sign (length buf)) →
+    (j : ℕ) (g : Given) → j < lanes → sampleOf outputs j ≡ g →
+    getD (lay (laid (λ xs. xs) (signedSamplesOf outputs sign (length buf))) buf) j (pos 0) ≡ signedCode (bitAt sign j) g
+signed-say outputs sign buf e j g h q =
+    lane-read outputs buf (λ j. signedCode (bitAt sign j) (sampleOf outputs j)) e j (pos 0) h ∙ ap (signedCode (bitAt sign j)) q
+
+-- ---- codes
+-- zero stays zero and a miss a miss, whatever the sign
+pub zero-stays : (bit : ℕ) → signedCode bit (sample 0) ≡ pos 0
+zero-stays bit = either (eqb bit 1)
+  where
+    either : (b : Bool) → cond b (negℤ (pos 0)) (pos 0) ≡ pos 0
+    either true = refl
+    either false = refl
+
+pub miss-stays : (bit : ℕ) → signedCode bit missed ≡ pos 32767
+miss-stays bit = refl
+
+-- a number in 7 bits, or a miss: what a lane of at most 8 outputs gives
+abbrev pub Small : Given → Type 0
+Small (sample x) = x < 128
+Small missed = Unit {0}
+
+pub given-small : (outputs : List ℕ) (j : ℕ) → length outputs ≤ most-outputs → Small (sampleOf outputs j)
+unfolding sampleOf spelled
+given-small outputs j h = either (hits outputs j)
+  where
+    f : ℕ → ℕ
+    f t = bitAt (getD outputs (t + 1) 0) j
+
+    either : (b : Bool) → Small (cond b (sample (pack (length outputs - 1) f)) missed)
+    either true = omega (
+      arith,
+      pack-lt (length outputs - 1) f (λ t l. bitAt-lt (getD outputs (t + 1) 0) j),
+      pow-mono {i = length outputs - 1} {j = 7} (omega arith),
+    )
+    either false = tt
+
+-- so the codes tell what was given: 255 and 32,767 stand for a miss and for nothing else
+pub code-tells : (g h : Given) → Small g → Small h → code g ≡ code h → g ≡ h
+code-tells (sample x) (sample y) a b e = ap sample e
+code-tells (sample x) missed a b e = absurd (omega arith)
+code-tells missed (sample y) a b e = absurd (omega arith)
+code-tells missed missed a b e = refl
+
+-- negated or not, a sample's distance from 0 is its number
+pub distance : (bit x : ℕ) → natAbs (signedCode bit (sample x)) ≡ x
+distance bit x = either (eqb bit 1) x
+  where
+    either : (b : Bool) (x : ℕ) → natAbs (cond b (negℤ (pos x)) (pos x)) ≡ x
+    either true zero = refl
+    either true (suc x) = refl
+    either false x = refl
+
+pub signed-tells : (bit : ℕ) (g h : Given) → Small g → Small h → signedCode bit g ≡ signedCode bit h → g ≡ h
+signed-tells bit (sample x) (sample y) a b e = ap sample (sym (distance bit x) ∙ (ap natAbs e ∙ distance bit y))
+signed-tells bit (sample x) missed a b e = absurd (omega (arith, distance bit x, ap natAbs e))
+signed-tells bit missed (sample y) a b e = absurd (omega (arith, distance bit y, ap natAbs e))
+signed-tells bit missed missed a b e = refl

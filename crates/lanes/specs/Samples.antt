@@ -1,0 +1,151 @@
+-- 01, "Runs, words, samples": what a lane of the outputs gives, and how samples and signed samples write it. Assumes nothing.
+use Prim.Native.Nat.{ℕ, zero, suc, _+_, _-_, _*_, _%_, _^_, _≤_, _<_}
+use mathlib.Core.Path.{_≡_, _∙_}
+use mathlib.Core.Bool.{Bool, true, false, cond}
+use mathlib.Core.List.{List}
+use native.Mathlib.Omega.{arith}
+use borrow.Author.Tests.{eq-eqb, ne-eqb, lt-ltb, le-ltb}
+use mir.Facts.{toZ-pos, toZ-ofZ}
+use mir.Syntax.{w16}
+use mir.Val.{SFits, toZ, ofZ}
+use lib.Bits.{bitOr}
+use lib.Dec.{eqb, ltb, lit<}
+use lib.IntN.{ℤ, pos, negℤ, _-ℤ_, +ℤ-idl}
+use lib.ListN.{length, getD}
+use Rattle.laws.specs.Words.{bitAt, pack, Packed, packed-more, packed-done}
+use Rattle.laws.specs.Lay.{upto}
+use Rattle.laws.specs.Outcome.{Outcome, refused, gives, refuse, _>>_}
+use Rattle.files.specs.Matrix.{outside}
+use Rattle.files.specs.Refusal.{numberOf}
+use Rattle.lanes.specs.Slicing.{lanes}
+use Rattle.lanes.specs.declared.sampling.Sampled.{Sampled}
+use Rattle.lanes.specs.declared.sampling.Sampled.the-variants as Sampled
+
+-- the limit: 1 to 8 output words
+abbrev pub most-outputs : ℕ
+most-outputs = 8
+
+-- what a lane of the outputs gives
+pub data Given : Type 0 where
+  sample : ℕ → Given
+  missed : Given
+
+-- whether bit j of output 0 is set
+unfoldable pub hits : List ℕ → ℕ → Bool
+hits outputs j = eqb (bitAt (getD outputs 0 0) j) 1
+
+-- the number that bit j of outputs 1 and up spells, lowest first
+unfoldable pub spelled : List ℕ → ℕ → ℕ
+spelled outputs j = pack (length outputs - 1) (λ t. bitAt (getD outputs (t + 1) 0) j)
+
+-- If bit j of output 0 is set, lane j gives the sample that bit j of outputs 1 and up spells; if not, it misses.
+unfoldable pub sampleOf : List ℕ → ℕ → Given
+sampleOf outputs j = cond (hits outputs j) (sample (spelled outputs j)) missed
+
+-- as a sample: the number, or 255
+abbrev pub code : Given → ℕ
+code (sample x) = x
+code missed = 255
+
+-- x, negated if the bit is set
+abbrev pub negatedIf : ℕ → ℕ → ℤ
+negatedIf bit x = cond (eqb bit 1) (negℤ (pos x)) (pos x)
+
+-- as a signed sample: the number, negated if the lane's bit of the sign word is set, or 32,767
+abbrev pub signedCode : ℕ → Given → ℤ
+signedCode bit (sample x) = negatedIf bit x
+signedCode bit missed = pos 32767
+
+-- reading a number from each lane of the outputs into a buffer of `room` places: the 64 numbers that are laid down
+unfoldable pub eachLane : {A : Type 0} → List ℕ → ℕ → (ℕ → A) → Outcome (List A)
+eachLane outputs room number = do
+  refuse 3 (outside most-outputs (length outputs))
+  refuse 13 (ltb room lanes)
+  gives (upto lanes number)
+
+-- reading samples: refusal 3 or 13, or the samples
+abbrev pub samplesOf : List ℕ → ℕ → Outcome (List ℕ)
+samplesOf outputs room = eachLane outputs room (λ j. code (sampleOf outputs j))
+
+-- reading signed samples, with a sign word
+abbrev pub signedSamplesOf : List ℕ → ℕ → ℕ → Outcome (List ℤ)
+signedSamplesOf outputs sign room = eachLane outputs room (λ j. signedCode (bitAt sign j) (sampleOf outputs j))
+
+-- the answer's cases in 01's numbers
+abbrev pub sampled : Sampled → Outcome (Unit {0})
+sampled (Sampled.Refused why) = refused (numberOf why)
+sampled Sampled.All = gives tt
+
+-- ---- the ways through the checks
+module _ {A : Type 0} (outputs : List ℕ) (room : ℕ) (number : ℕ → A) where
+  pub lanes-size : outside most-outputs (length outputs) ≡ true → eachLane outputs room number ≡ refused 3
+  unfolding eachLane
+  lanes-size a = rw a
+
+  pub lanes-short : outside most-outputs (length outputs) ≡ false → room < lanes → eachLane outputs room number ≡ refused 13
+  unfolding eachLane
+  lanes-short a b = rw (a, lt-ltb room lanes b)
+
+  pub lanes-give : outside most-outputs (length outputs) ≡ false → lanes ≤ room → eachLane outputs room number ≡ gives (upto lanes number)
+  unfolding eachLane
+  lanes-give a b = rw (a, le-ltb room lanes b)
+
+-- ---- a lane as code reads it
+pub hit-read : (outputs : List ℕ) (j bit : ℕ) → bit ≡ bitAt (getD outputs 0 0) j → eqb bit 1 ≡ hits outputs j
+unfolding hits
+hit-read outputs j bit e = rw e
+
+-- the number is packed of the outputs from 1 to t - 1
+module _ (outputs : List ℕ) (j : ℕ) where
+  abbrev bits : ℕ → ℕ
+  bits t = bitAt (getD outputs (t + 1) 0) j
+
+  pub number-more : (t b x : ℕ) → 1 ≤ t → t ≤ 8 → b ≡ bitAt (getD outputs t 0) j → b < 2 →
+      Packed bits (t - 1) x → Packed bits (t + 1 - 1) (bitOr x ((b * 2 ^ (t - 1)) % 2 ^ 8))
+  number-more t b x l h e s p =
+      let back : t - 1 + 1 ≡ t = omega arith in
+      let on : t + 1 - 1 ≡ t - 1 + 1 = omega arith in
+      rw on (packed-more bits 8 (t - 1) b x (omega arith) (rw back e) s p)
+
+  pub number-done : (t x : ℕ) → t ≤ length outputs → length outputs ≤ t → Packed bits (t - 1) x → x ≡ spelled outputs j
+  unfolding spelled
+  number-done t x a b p = packed-done bits (t - 1) (length outputs - 1) x (omega arith) (omega arith) p
+
+module _ (outputs : List ℕ) (j : ℕ) (hit : Bool) (e : hit ≡ hits outputs j) where
+  pub code-hit : (x : ℕ) → hit ≡ true → x ≡ spelled outputs j → x ≡ code (sampleOf outputs j)
+  unfolding sampleOf
+  code-hit x h q = rw (← e, h) q
+
+  pub code-miss : hit ≡ false → 255 ≡ code (sampleOf outputs j)
+  unfolding sampleOf
+  code-miss h = rw (← e, h)
+
+  pub signed-hit : (sign s x : ℕ) (z : ℤ) → hit ≡ true → s ≡ bitAt sign j → x ≡ spelled outputs j → z ≡ negatedIf s x →
+      z ≡ signedCode (bitAt sign j) (sampleOf outputs j)
+  unfolding sampleOf
+  signed-hit sign s x z h es ex ez = rw (← e, h, ← es, ← ex) ez
+
+  pub signed-miss : (sign : ℕ) → hit ≡ false → pos 32767 ≡ signedCode (bitAt sign j) (sampleOf outputs j)
+  unfolding sampleOf
+  signed-miss sign h = rw (← e, h)
+
+-- ---- negation in 16 bits
+-- a number that fits is kept
+pub kept : (z z′ : ℤ) → SFits w16 z → z ≡ z′ → toZ w16 (ofZ w16 z) ≡ z′
+kept z z′ h e = toZ-ofZ {w = w16} {z = z} h ∙ e
+
+minus-is : (x : ℕ) → x < 256 → pos 0 -ℤ toZ w16 x ≡ negℤ (pos x)
+minus-is x h = rw (toZ-pos w16 {n = x} (omega arith)) (+ℤ-idl (negℤ (pos x)))
+
+minus-small : (x : ℕ) → x < 256 → SFits w16 (negℤ (pos x))
+minus-small zero h = record { sfits = lit< tt }
+minus-small (suc x) h = record { sfits = omega arith }
+
+pub minus-fits : (x : ℕ) → x < 256 → SFits w16 (pos 0 -ℤ toZ w16 x)
+minus-fits x h = rw (minus-is x h) (minus-small x h)
+
+pub negated : (bit x : ℕ) → x < 256 → bit ≡ 1 → toZ w16 (ofZ w16 (pos 0 -ℤ toZ w16 x)) ≡ negatedIf bit x
+negated bit x l h = rw (eq-eqb bit 1 h, toZ-ofZ {w = w16} {z = pos 0 -ℤ toZ w16 x} (minus-fits x l)) (minus-is x l)
+
+pub not-negated : (bit x : ℕ) → x < 256 → (bit ≡ 1 → ⊥) → toZ w16 x ≡ negatedIf bit x
+not-negated bit x l h = rw (ne-eqb bit 1 h) (toZ-pos w16 {n = x} (omega arith))

@@ -1,0 +1,74 @@
+-- 01, "Runs, words, samples": 64 strings of bits as words. Bit j of word i is bit i of string j. Assumes nothing.
+use Prim.Native.Nat.{ℕ, _+_, _*_, _≤_, _<_}
+use mathlib.Core.Path.{_≡_, refl, sym}
+use mathlib.Core.List.{List}
+use native.Mathlib.Omega.{arith}
+use borrow.Author.Tests.{lt-ltb, le-ltb, ltb-false}
+use lib.Dec.{ltb}
+use lib.ListN.{length, take, drop}
+use Rattle.laws.specs.Words.{pack, Packed, packed-done}
+use Rattle.laws.specs.Places.{row-end}
+use Rattle.laws.specs.Lay.{upto}
+use Rattle.laws.specs.Outcome.{Outcome, refused, gives, refuse, _>>_, passed}
+use Rattle.files.specs.Fields.{bitOf, width}
+use Rattle.files.specs.Matrix.{outside, most-columns}
+use Rattle.files.specs.Refusal.{numberOf}
+use Rattle.files.specs.Checks.{within}
+use Rattle.files.specs.Strings.{stringsOf}
+use Rattle.lanes.specs.declared.slicing.Sliced.{Sliced}
+use Rattle.lanes.specs.declared.slicing.Sliced.the-variants as Sliced
+
+-- the bits of a word
+abbrev pub lanes : ℕ
+lanes = 64
+
+-- string j of 64 strings of n bits, one after another
+unfoldable pub stringAt : ℕ → List ℕ → ℕ → List ℕ
+stringAt n strings j = take (width n) (drop (j * width n) strings)
+
+-- word i of 64 strings of w bytes each: bit j is bit i of string j
+unfoldable pub wordOf : List ℕ → ℕ → ℕ → ℕ
+wordOf strings w i = pack lanes (λ j. bitOf strings (j * w) i)
+
+-- slicing 64 strings of n bits into a buffer of `room` words: the n words that are laid down
+unfoldable pub sliceOf : ℕ → List ℕ → ℕ → Outcome (List ℕ)
+sliceOf n strings room = do
+  stringsOf lanes n strings
+  refuse 13 (ltb room n)
+  gives (upto n (wordOf strings (width n)))
+
+-- the answer's cases in 01's numbers, and how many words are laid down
+abbrev pub sliced : Sliced → Outcome ℕ
+sliced (Sliced.Refused why) = refused (numberOf why)
+sliced (Sliced.Words n) = gives n
+
+-- ---- the ways through the checks
+module _ (n : ℕ) (strings : List ℕ) (room : ℕ) where
+  pub slice-refused : (k : ℕ) → refused k ≡ stringsOf lanes n strings → sliceOf n strings room ≡ refused k
+  unfolding sliceOf
+  slice-refused k e = rw (← e)
+
+  pub slice-short : gives tt ≡ stringsOf lanes n strings → room < n → sliceOf n strings room ≡ refused 13
+  unfolding sliceOf
+  slice-short e h = rw (← e, lt-ltb room n h)
+
+  pub slice-gives : gives tt ≡ stringsOf lanes n strings → n ≤ room → sliceOf n strings room ≡ gives (upto n (wordOf strings (width n)))
+  unfolding sliceOf
+  slice-gives e h = rw (← e, le-ltb room n h)
+
+-- ---- a word as code packs it, and where string j lies
+pub word-done : (strings : List ℕ) (w i j word : ℕ) → j ≤ lanes → lanes ≤ j → Packed (λ j. bitOf strings (j * w) i) j word → word ≡ wordOf strings w i
+unfolding wordOf
+word-done strings w i j word a b p = packed-done (λ j. bitOf strings (j * w) i) j lanes word a b p
+
+pub string-in : (j w q size : ℕ) → j < lanes → q < w → lanes * w ≤ size → j * w + q < size
+string-in j w q size h l b = omega (arith, row-end {v = j} {m = lanes} {size = size} w w h refl b)
+
+-- what strings that passed say: their number of columns, and that they are there
+pub strings-there : (n : ℕ) (strings : List ℕ) (room : ℕ) → gives tt ≡ stringsOf lanes n strings → n ≤ room →
+    (n ≤ 65535) × (lanes * width n ≤ length strings) × (n ≤ room)
+unfolding stringsOf
+strings-there n strings room e h =
+    let c1 = passed 3 (outside most-columns n) _ tt (sym e) in
+    let c2 = passed 13 (ltb (length strings) (lanes * width n)) _ tt (c1 .1) in
+    (omega (arith, within most-columns n (c1 .0) .1), ltb-false (length strings) (lanes * width n) (c2 .0), h)
