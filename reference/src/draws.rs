@@ -1,0 +1,34 @@
+//! Drawing in one call: 01's check, slice, start and samples, with working words that no caller
+//! lends.
+
+use crate::lanes::{check_strings, samples_of, signed_samples_of, words_of, LANES};
+use crate::machine::start;
+use crate::program::check;
+use crate::refusal::{refuse, Answer, BUFFER};
+
+/// Draw: the samples of 64 strings, laid into a buffer of `samples_lent` bytes.
+pub fn draw(program: &[u8], strings: &[u8], samples_lent: usize) -> Answer<Vec<u8>> {
+    outputs_for(program, strings, samples_lent).map(|outputs| samples_of(&outputs))
+}
+
+/// Draw signed: the signed samples of 64 strings, laid into a buffer of `samples_lent` numbers.
+pub fn draw_signed(
+    program: &[u8],
+    strings: &[u8],
+    sign: u64,
+    samples_lent: usize,
+) -> Answer<Vec<i16>> {
+    let outputs = outputs_for(program, strings, samples_lent)?;
+    Ok(signed_samples_of(&outputs, sign))
+}
+
+/// The outputs of a whole run on the strings: the program's checks, 13 and 5 for the strings, 13
+/// for the samples.
+fn outputs_for(program: &[u8], strings: &[u8], samples_lent: usize) -> Answer<Vec<u64>> {
+    let header = check(program)?;
+    let strings = check_strings(header.inputs, strings)?;
+    refuse(BUFFER, samples_lent < LANES)?;
+    let words = words_of(header.inputs, strings);
+    let run = start(program, &words, header.registers, header.outputs, u32::MAX)?;
+    Ok(run.outputs)
+}

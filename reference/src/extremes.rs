@@ -1,0 +1,63 @@
+//! Matrices made for the length of their programs.
+
+use crate::compiler::translate;
+use crate::matrix::{Matrix, MOST_COLUMNS, MOST_ROWS};
+
+/// With 128 rows, every place of the tree that a program follows is open after this many columns
+/// without a bit.
+const OPENING: usize = 7;
+
+/// The matrix of 128 rows and columns whose rows are set in every column from the eighth on. It has
+/// the longest program that there is with that beginning: a column keeps 128 places open and marks
+/// 128 rows.
+pub fn longest_program() -> Matrix {
+    let mut matrix = empty(MOST_COLUMNS);
+    for v in 0..MOST_ROWS {
+        for c in OPENING..MOST_COLUMNS {
+            set(&mut matrix, v, c);
+        }
+    }
+    matrix
+}
+
+/// A matrix of 128 rows whose program file has exactly this length, where there is one among those
+/// that begin with seven empty columns.
+///
+/// Such a column keeps 128 places open whatever is set in it. So each bit of row v adds only the
+/// instructions that mark the row, one and one more for each bit of v, and the length that is
+/// missing is made up of these.
+pub fn with_program_length(length: usize) -> Option<Matrix> {
+    (OPENING + 1..=MOST_COLUMNS).find_map(|columns| {
+        let matrix = empty(columns);
+        let missing = length.checked_sub(translate(&matrix).length())?;
+        (missing % 10 == 0).then_some(())?;
+        filled(matrix, missing / 10)
+    })
+}
+
+/// The matrix with bits set that need so many instructions of 10 bytes, if it has room for them.
+fn filled(mut matrix: Matrix, mut instructions: usize) -> Option<Matrix> {
+    for c in OPENING..matrix.columns {
+        for v in (0..MOST_ROWS).rev() {
+            let needed = 1 + v.count_ones() as usize;
+            if needed <= instructions {
+                set(&mut matrix, v, c);
+                instructions -= needed;
+            }
+        }
+    }
+    (instructions == 0).then_some(matrix)
+}
+
+/// 128 rows without a bit.
+fn empty(columns: usize) -> Matrix {
+    Matrix {
+        rows: MOST_ROWS,
+        columns,
+        entries: vec![0; MOST_ROWS * columns],
+    }
+}
+
+fn set(matrix: &mut Matrix, row: usize, column: usize) {
+    matrix.entries[row * matrix.columns + column] = 1;
+}

@@ -1,0 +1,185 @@
+//! The operations as callers know them: buffers and numbers are lent, and 0 or the refusal's number
+//! is returned.
+//!
+//! Names and order of the parameters are those of the engine's C interface. A refusal changes
+//! nothing that is lent, and no answer changes an element beyond its result. So a test can lend
+//! equal memory to the engine and to these functions and compare all of it afterwards.
+
+use crate::lanes::MISS;
+use crate::machine::Run;
+use crate::refusal::Answer;
+use crate::{compiler, draws, lanes, machine, matrix, program, walk as walks, weights as shares};
+
+/// Returned where an operation was carried out.
+pub const DONE: u32 = 0;
+
+/// Lays elements down at the front of a lent buffer.
+fn lay<T: Copy>(laid: &[T], buffer: &mut [T]) {
+    buffer[..laid.len()].copy_from_slice(laid);
+}
+
+/// Carries out `put` on a result and returns 0, or returns the refusal's number.
+fn settle<T>(answer: Answer<T>, put: impl FnOnce(T)) -> u32 {
+    match answer {
+        Ok(result) => {
+            put(result);
+            DONE
+        }
+        Err(number) => number,
+    }
+}
+
+/// Lays a file down and sets its length.
+fn settle_file(answer: Answer<Vec<u8>>, file: &mut [u8], length: &mut usize) -> u32 {
+    settle(answer, |laid| {
+        lay(&laid, file);
+        *length = laid.len();
+    })
+}
+
+/// Reading a matrix file.
+pub fn read(file: &[u8], entries: &mut [u8], rows: &mut usize, columns: &mut usize) -> u32 {
+    settle(matrix::read(file, entries.len()), |matrix| {
+        lay(&matrix.entries, entries);
+        *rows = matrix.rows;
+        *columns = matrix.columns;
+    })
+}
+
+/// Writing a matrix file.
+pub fn write(
+    rows: usize,
+    columns: usize,
+    entries: &[u8],
+    file: &mut [u8],
+    length: &mut usize,
+) -> u32 {
+    let answer = matrix::write(rows, columns, entries, file.len());
+    settle_file(answer, file, length)
+}
+
+/// Building a matrix file from weights.
+pub fn build(
+    weights: &[u32],
+    columns: usize,
+    signed: bool,
+    file: &mut [u8],
+    length: &mut usize,
+) -> u32 {
+    let answer = shares::build(weights, columns, signed, file.len());
+    settle_file(answer, file, length)
+}
+
+/// Walking on one string; row 255 is a miss.
+pub fn walk(file: &[u8], string: &[u8], row: &mut usize) -> u32 {
+    settle(walks::walk(file, string), |hit| {
+        *row = hit.unwrap_or(usize::from(MISS))
+    })
+}
+
+/// Compiling a matrix file.
+pub fn compile(file: &[u8], program: &mut [u8], length: &mut usize) -> u32 {
+    let answer = compiler::compile(file, program.len());
+    settle_file(answer, program, length)
+}
+
+/// Checking a program file.
+pub fn check(
+    program: &[u8],
+    registers: &mut usize,
+    inputs: &mut usize,
+    outputs: &mut usize,
+    count: &mut u32,
+) -> u32 {
+    settle(program::check(program), |header| {
+        *registers = header.registers;
+        *inputs = header.inputs;
+        *outputs = header.outputs;
+        *count = header.count as u32;
+    })
+}
+
+/// Starting a program.
+#[allow(clippy::too_many_arguments)]
+pub fn start(
+    program: &[u8],
+    inputs: &[u64],
+    registers: &mut [u64],
+    outputs: &mut [u64],
+    budget: u32,
+    position: &mut u32,
+    count: &mut u32,
+    finished: &mut bool,
+) -> u32 {
+    let answer = machine::start(program, inputs, registers.len(), outputs.len(), budget);
+    settle(answer, |run| {
+        put_run(&run, registers, outputs, position, count, finished)
+    })
+}
+
+/// Resuming a program.
+#[allow(clippy::too_many_arguments)]
+pub fn resume(
+    program: &[u8],
+    inputs: &[u64],
+    registers: &mut [u64],
+    outputs: &mut [u64],
+    position: u32,
+    budget: u32,
+    position_out: &mut u32,
+    count: &mut u32,
+    finished: &mut bool,
+) -> u32 {
+    let answer = machine::resume(program, inputs, registers, outputs, position, budget);
+    settle(answer, |run| {
+        put_run(&run, registers, outputs, position_out, count, finished)
+    })
+}
+
+/// Lays the words of a run down and sets its numbers.
+fn put_run(
+    run: &Run,
+    registers: &mut [u64],
+    outputs: &mut [u64],
+    position: &mut u32,
+    count: &mut u32,
+    finished: &mut bool,
+) {
+    lay(&run.registers, registers);
+    lay(&run.outputs, outputs);
+    *position = run.position;
+    *count = run.count;
+    *finished = run.finished;
+}
+
+/// Slicing 64 strings.
+pub fn slice(columns: usize, strings: &[u8], words: &mut [u64]) -> u32 {
+    settle(lanes::slice(columns, strings, words.len()), |laid| {
+        lay(&laid, words)
+    })
+}
+
+/// Reading samples.
+pub fn samples(outputs: &[u64], samples: &mut [u8]) -> u32 {
+    settle(lanes::samples(outputs, samples.len()), |laid| {
+        lay(&laid, samples)
+    })
+}
+
+/// Reading signed samples.
+pub fn signed_samples(outputs: &[u64], sign: u64, samples: &mut [i16]) -> u32 {
+    let answer = lanes::signed_samples(outputs, sign, samples.len());
+    settle(answer, |laid| lay(&laid, samples))
+}
+
+/// Drawing samples.
+pub fn draw(program: &[u8], strings: &[u8], samples: &mut [u8]) -> u32 {
+    let answer = draws::draw(program, strings, samples.len());
+    settle(answer, |laid| lay(&laid, samples))
+}
+
+/// Drawing signed samples.
+pub fn draw_signed(program: &[u8], strings: &[u8], sign: u64, samples: &mut [i16]) -> u32 {
+    let answer = draws::draw_signed(program, strings, sign, samples.len());
+    settle(answer, |laid| lay(&laid, samples))
+}

@@ -1,0 +1,229 @@
+//! The answer to a line: its fields are read, the operation is carried out, and what comes of it is
+//! written.
+
+use super::line::{Fields, Hash, Line, Malformed, Task};
+use crate::compiler::compile;
+use crate::draws::{draw, draw_signed};
+use crate::lanes::{samples, signed_samples, slice, MISS};
+use crate::machine::{resume, start, Run};
+use crate::matrix::{read, write};
+use crate::program::check;
+use crate::refusal::Answer;
+use crate::walk::walk;
+use crate::weights::build;
+
+/// What stands right of the sign `=` for what stands left of it.
+pub fn answer(given: &str) -> Result<String, Malformed> {
+    let mut fields = Fields::of(given);
+    let number = fields.number()?;
+    let task =
+        Task::numbered(number).ok_or_else(|| Malformed(format!("no operation: {number:x}")))?;
+    let outcome = carry_out(task, &mut fields)?;
+    fields.end()?;
+    Ok(match outcome {
+        Ok(line) => line.to_string(),
+        Err(refusal) => Line::default().number(u64::from(refusal)).to_string(),
+    })
+}
+
+/// The operation's outcome, as the fields of an answer.
+fn carry_out(task: Task, fields: &mut Fields) -> Result<Answer<Line>, Malformed> {
+    Ok(match task {
+        Task::Read => read(&fields.bytes()?, fields.size()?).map(|matrix| {
+            done()
+                .size(matrix.rows)
+                .size(matrix.columns)
+                .result(&matrix.entries)
+        }),
+        Task::Write => {
+            let (rows, columns) = (fields.size()?, fields.size()?);
+            file(write(rows, columns, &fields.bytes()?, fields.size()?))
+        }
+        Task::Build => {
+            let (weights, columns) = (fields.short_numbers()?, fields.size()?);
+            file(build(
+                &weights,
+                columns,
+                fields.number()? != 0,
+                fields.size()?,
+            ))
+        }
+        Task::Walk => walk(&fields.bytes()?, &fields.bytes()?)
+            .map(|hit| done().size(hit.unwrap_or(usize::from(MISS)))),
+        Task::Compile => file(compile(&fields.bytes()?, fields.size()?)),
+        Task::Check => checked(&fields.bytes()?),
+        Task::Start => {
+            let (program, inputs) = (fields.bytes()?, fields.words()?);
+            let (registers, outputs) = (fields.size()?, fields.size()?);
+            ran(start(
+                &program,
+                &inputs,
+                registers,
+                outputs,
+                fields.short_number()?,
+            ))
+        }
+        Task::Resume => {
+            let (program, inputs) = (fields.bytes()?, fields.words()?);
+            let (registers, outputs) = (fields.words()?, fields.words()?);
+            let (position, budget) = (fields.short_number()?, fields.short_number()?);
+            ran(resume(
+                &program, &inputs, &registers, &outputs, position, budget,
+            ))
+        }
+        Task::Slice => slice(fields.size()?, &fields.bytes()?, fields.size()?)
+            .map(|words| done().result(&words)),
+        Task::Samples => samples(&fields.words()?, fields.size()?).map(|laid| done().result(&laid)),
+        Task::SignedSamples => signed_samples(&fields.words()?, fields.number()?, fields.size()?)
+            .map(|laid| done().result(&laid)),
+        Task::Draw => draw(&fields.bytes()?, &fields.bytes()?, fields.size()?)
+            .map(|laid| done().result(&laid)),
+        Task::DrawSigned => {
+            let (program, strings) = (fields.bytes()?, fields.bytes()?);
+            draw_signed(&program, &strings, fields.number()?, fields.size()?)
+                .map(|laid| done().result(&laid))
+        }
+        Task::Rewrite => rewritten(&fields.bytes()?),
+        Task::Draws => drawn(&fields.bytes()?, &fields.bytes()?, fields.number()?),
+        Task::Stops => {
+            let (file, inputs, budgets) =
+                (fields.bytes()?, fields.words()?, fields.short_numbers()?);
+            let (&first, others) = budgets
+                .split_first()
+                .ok_or_else(|| Malformed("no budget".to_string()))?;
+            stopped(&file, &inputs, first, others)
+        }
+        Task::LongCheck => checked(&long_program(fields)?),
+        Task::LongStart => {
+            let program = long_program(fields)?;
+            long_start(&program, &fields.words()?, fields.short_number()?)
+        }
+    })
+}
+
+/// The first field of an answer that is no refusal.
+fn done() -> Line {
+    Line::default().number(0)
+}
+
+/// A file that was laid down: its length, and itself.
+fn file(laid: Answer<Vec<u8>>) -> Answer<Line> {
+    laid.map(|file| done().size(file.len()).result(&file))
+}
+
+/// The four numbers of a program's header.
+fn checked(program: &[u8]) -> Answer<Line> {
+    let header = check(program)?;
+    let line = done().size(header.registers).size(header.inputs);
+    Ok(line.size(header.outputs).size(header.count))
+}
+
+/// A run: its numbers, registers and outputs.
+fn ran(run: Answer<Run>) -> Answer<Line> {
+    run.map(|run| numbers(&run).result(&run.registers).result(&run.outputs))
+}
+
+/// Position, count, and whether the run finished.
+fn numbers(run: &Run) -> Line {
+    let line = done()
+        .number(u64::from(run.position))
+        .number(u64::from(run.count));
+    line.number(u64::from(run.finished))
+}
+
+/// A matrix file read, and what was read written again.
+fn rewritten(given: &[u8]) -> Answer<Line> {
+    let matrix = read(given, usize::MAX)?;
+    file(write(
+        matrix.rows,
+        matrix.columns,
+        &matrix.entries,
+        usize::MAX,
+    ))
+}
+
+/// Samples and signed samples of 64 strings by a matrix's own program.
+fn drawn(file: &[u8], strings: &[u8], sign: u64) -> Answer<Line> {
+    let program = compile(file, usize::MAX)?;
+    let plain = draw(&program, strings, usize::MAX)?;
+    let signed = draw_signed(&program, strings, sign, usize::MAX)?;
+    Ok(done().result(&plain).result(&signed))
+}
+
+/// A start of a matrix's own program with the first budget and a resume, from where the call before
+/// stopped, with each of the others.
+fn stopped(file: &[u8], inputs: &[u64], first: u32, others: &[u32]) -> Answer<Line> {
+    let program = compile(file, usize::MAX)?;
+    let mut hash = Hash::default();
+    let mut run = start(&program, inputs, usize::MAX, usize::MAX, first)?;
+    take_run(&mut hash, &run);
+    let mut total = run.count;
+    for &budget in others {
+        run = resume(
+            &program,
+            inputs,
+            &run.registers,
+            &run.outputs,
+            run.position,
+            budget,
+        )?;
+        take_run(&mut hash, &run);
+        total += run.count;
+    }
+    run.count = total;
+    Ok(numbers(&run).result(&run.outputs).hash(hash))
+}
+
+/// Takes a run into a hash: its numbers, registers and outputs.
+fn take_run(hash: &mut Hash, run: &Run) {
+    hash.take(&[run.position, run.count]);
+    hash.take(&[u8::from(run.finished)]);
+    hash.take(&run.registers);
+    hash.take(&run.outputs);
+}
+
+/// A program file whose middle part is repeated.
+fn long_program(fields: &mut Fields) -> Result<Vec<u8>, Malformed> {
+    let mut program = fields.bytes()?;
+    let middle = fields.bytes()?;
+    let times = fields.size()?;
+    program.extend(middle.repeat(times));
+    program.extend(fields.bytes()?);
+    Ok(program)
+}
+
+/// A start of a long program: its numbers, its outputs, and the hash of it all.
+fn long_start(program: &[u8], inputs: &[u64], budget: u32) -> Answer<Line> {
+    let run = start(program, inputs, usize::MAX, usize::MAX, budget)?;
+    let mut hash = Hash::default();
+    take_run(&mut hash, &run);
+    Ok(numbers(&run).result(&run.outputs).hash(hash))
+}
+
+#[cfg(test)]
+mod tests {
+    use super::answer;
+
+    #[test]
+    fn answers_lines() {
+        let file = "0b00200003000200804040";
+        assert_eq!(
+            answer(&format!("1 {file} 6")).unwrap(),
+            "0 3 2 010000010001"
+        );
+        assert_eq!(answer(&format!("1 {file} 5")).unwrap(), "d");
+        assert_eq!(
+            answer("2 3 2 010000010001 b").unwrap(),
+            format!("0 b {file}")
+        );
+        assert_eq!(answer(&format!("4 {file} 80")).unwrap(), "0 2");
+        assert_eq!(
+            answer("4 0900200001000100 80 80").unwrap_err().0,
+            "one field too many: 80"
+        );
+        assert_eq!(answer("4 090020000100010080 80").unwrap(), "0 ff");
+        assert_eq!(answer("1 - 0").unwrap(), "1");
+        assert!(answer("e 00").is_err());
+        assert!(answer("1 0").is_err());
+    }
+}

@@ -1,0 +1,39 @@
+//! Test vectors: lines of an operation, its inputs, and what it must answer and lay down. README.md
+//! says how to read them.
+
+pub mod answer;
+pub mod cases;
+mod damaged;
+pub mod line;
+mod runs;
+mod sound;
+mod worked;
+
+use crate::random::Random;
+use line::Line;
+
+/// No line is longer than this, with its end.
+pub const LONGEST_LINE: usize = 8_192;
+
+/// The seed from which all random cases come.
+const SEED: u64 = 0x0c02_b401_1077;
+
+/// What is left of the sign `=` in every vector, in order: the fixed cases, with more of them where
+/// `scale` is above 1, and as many rounds of random cases as `scale` says.
+pub fn each_given(scale: usize, mut visit: impl FnMut(&str)) {
+    let mut put = |line: Line| visit(&line.to_string());
+    worked::fixed(&mut put);
+    damaged::fixed(&mut put);
+    runs::fixed(&mut put);
+    sound::fixed(&mut Random::new(SEED), &mut put);
+    if scale > 1 {
+        damaged::thorough(&mut put);
+        runs::thorough(&mut put);
+    }
+    for round in 1..=scale {
+        let random = &mut Random::new(SEED + round as u64);
+        sound::round(random, &mut put);
+        runs::round(random, &mut put);
+        damaged::round(random, &mut put);
+    }
+}

@@ -1,0 +1,146 @@
+//! The tables of the source documents, and what the documents say of them.
+
+use reference::compiler::translate;
+use reference::matrix::{check, Matrix};
+use reference::natural::Natural;
+use reference::random::Random;
+use reference::tables::{document_001, document_002, document_004};
+use reference::vectors::line::Hash;
+use reference::walk::{place_after, walk_bits, Place};
+
+fn bits_of(text: &str) -> Vec<u8> {
+    text.bytes().map(|digit| digit - b'0').collect()
+}
+
+fn row_after(matrix: &Matrix, text: &str) -> Option<usize> {
+    match place_after(matrix, &bits_of(text)) {
+        Place::Hit { row, .. } => Some(row),
+        Place::Left(_) => None,
+    }
+}
+
+/// The largest row with a bit set in the first columns: no string can hit a larger one there.
+fn largest_row_within(matrix: &Matrix, columns: usize) -> usize {
+    let set = |v: &usize| matrix.row(*v)[..columns].contains(&1);
+    (0..matrix.rows).filter(set).max().unwrap()
+}
+
+#[test]
+fn table_of_001() {
+    let matrix = document_001();
+    let first = Natural::from_hexadecimal("a3a2446c95b5b00985dbb564c791ff8b");
+    assert_eq!((matrix.rows, matrix.columns), (12, 128));
+    for v in 0..12 {
+        assert_eq!(matrix.value(v), first.shifted_down(v * v));
+    }
+    assert_eq!(check(&matrix.encode()), Ok((12, 128)));
+}
+
+/// Section 5.2, with the bits complemented as algorithm 8 takes 1 - r.
+#[test]
+fn look_up_tables_of_001() {
+    let matrix = document_001();
+    for (string, row) in [("0", 0), ("10", 1), ("110", 0)] {
+        assert_eq!(row_after(&matrix, string), Some(row));
+    }
+    assert_eq!(row_after(&matrix, "111"), None);
+    let mut found = 0;
+    for number in 0..32u8 {
+        let string = format!("111{:05b}", number);
+        match place_after(&matrix, &bits_of(&string)) {
+            Place::Hit { row, .. } => {
+                assert!(row <= 2);
+                found += 1;
+            }
+            Place::Left(distance) => {
+                let left = if number == 31 { 1 } else { 0 };
+                assert!(number >= 30 && distance == Natural::from(left));
+            }
+        }
+    }
+    assert_eq!(found, 30);
+}
+
+/// Section 5.1: about 2.031 random bits a sample.
+#[test]
+fn bits_spent_by_001() {
+    let matrix = document_001();
+    let mut random = Random::new(1);
+    let mut spent = 0;
+    for _ in 0..20_000 {
+        match place_after(&matrix, &random.bits(128)) {
+            Place::Hit { column, .. } => spent += column + 1,
+            Place::Left(_) => panic!("a miss has probability below 2^-100"),
+        }
+    }
+    assert!((40_000..41_300).contains(&spent));
+}
+
+#[test]
+fn table_of_002() {
+    let matrix = document_002();
+    assert_eq!((matrix.rows, matrix.columns), (87, 128));
+    let row =
+        |v: usize, digits: &str| assert_eq!(matrix.value(v), Natural::from_hexadecimal(digits));
+    ROWS_002.iter().for_each(|&(v, digits)| row(v, digits));
+    assert_eq!(matrix.misses(), Natural::from(41));
+    assert_eq!(Hash::of(&matrix.encode()).value(), HASH_002);
+}
+
+#[test]
+fn levels_of_002() {
+    let matrix = document_002();
+    assert_eq!(largest_row_within(&matrix, 32), 39);
+    assert_eq!(largest_row_within(&matrix, 64), 56);
+    // Section 3.3: no sample within 32 levels has a probability of about 2^-28.
+    let open = (0..32).fold(1, |open, column| {
+        2 * open - (0..87).filter(|&v| matrix.bit(v, column)).count()
+    });
+    assert!((12..=20).contains(&open));
+}
+
+#[test]
+fn program_of_002() {
+    let program = translate(&document_002());
+    assert_eq!(program.header.count, 23_411);
+    assert_eq!(program.header.registers, 3 + 7 + 3 * 87);
+}
+
+#[test]
+fn table_of_004() {
+    let matrix = document_004();
+    assert_eq!((matrix.rows, matrix.columns), (11, 80));
+    assert_eq!(matrix.total(), Natural::power_of_two(80));
+    assert_eq!(matrix.value(10), Natural::from(132));
+    assert_eq!(
+        matrix.value(0),
+        Natural::from_decimal("689508964344405183681541")
+    );
+    let mut random = Random::new(4);
+    for _ in 0..1_000 {
+        assert!(walk_bits(&matrix, &random.bits(80)).is_some());
+    }
+    for bit in [0, 1] {
+        assert!(walk_bits(&matrix, &[bit; 80]).is_some());
+    }
+}
+
+/// Rows of document 002's table, worked out with 120 decimal digits by other means.
+const ROWS_002: [(usize, &str); 13] = [
+    (0, "10977b8602122956de82d2ef3a925ade"),
+    (1, "20bf995d628b4af6188172aa1382a4d6"),
+    (2, "1f7a2f4b382ff80fca8ef0036a3cc9c3"),
+    (3, "1d77a760df2762cf85122049f583a54d"),
+    (38, "2f3689be2a219f1c18f26c192"),
+    (39, "11174c6fe30b0b946ac894dfe"),
+    (40, "60697bd1627a9e900cc4efb8"),
+    (56, "28bd32f2e58ee941c"),
+    (57, "92babee7792b6a75"),
+    (80, "9"),
+    (81, "1"),
+    (82, "0"),
+    (86, "0"),
+];
+
+/// The hash of the whole file of that table, by the same means.
+const HASH_002: u64 = 0x2f30_f98f_c592_58d6;

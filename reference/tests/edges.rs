@@ -1,0 +1,354 @@
+//! The edges of every operation: sizes at their limits, buffers one short, and the order of the
+//! checks.
+
+use reference::compiler::{compile, translate};
+use reference::draws::{draw, draw_signed};
+use reference::extremes::with_program_length;
+use reference::lanes::{samples, signed_samples, slice};
+use reference::listing::{lister, MOST_LISTED};
+use reference::machine::{resume, start};
+use reference::matrix::{check, read, write, Matrix};
+use reference::program;
+use reference::record::put;
+use reference::walk::walk;
+use reference::weights::build;
+
+fn file_of(rows: &[&str]) -> Vec<u8> {
+    Matrix::from_texts(rows).encode()
+}
+
+/// A matrix file with this header and these bytes after it.
+fn raw(length: usize, kind: usize, rows: usize, columns: usize, bytes: &[u8]) -> Vec<u8> {
+    let mut file = Vec::new();
+    for value in [length, kind, rows, columns] {
+        put(&mut file, value);
+    }
+    file.extend_from_slice(bytes);
+    file
+}
+
+/// A program file with this header and these bytes after it.
+fn code(registers: usize, inputs: usize, outputs: usize, count: u32, bytes: &[u8]) -> Vec<u8> {
+    let mut file = Vec::new();
+    for value in [14, 16, registers, inputs, outputs] {
+        put(&mut file, value);
+    }
+    file.extend_from_slice(&count.to_le_bytes());
+    file.extend_from_slice(bytes);
+    file
+}
+
+const ONES_0: [u8; 6] = [6, 0, 1, 0, 0, 0];
+const OUTPUT_0_0: [u8; 8] = [8, 0, 7, 0, 0, 0, 0, 0];
+
+#[test]
+fn matrix_checks_come_in_ascending_order() {
+    assert_eq!(check(&[]), Err(1));
+    assert_eq!(check(&raw(9, 32, 1, 1, &[])[..7]), Err(1));
+    assert_eq!(check(&raw(65_535, 32, 1, 1, &[0; 12])), Err(1));
+    assert_eq!(check(&raw(9, 16, 0, 0, &[])), Err(1));
+    assert_eq!(check(&raw(9, 16, 0, 0, &[1])), Err(2));
+    assert_eq!(check(&raw(0, 33, 1, 1, &[])), Err(2));
+    assert_eq!(check(&raw(9, 32, 0, 1, &[1])), Err(3));
+    assert_eq!(check(&raw(9, 32, 129, 1, &[1])), Err(3));
+    assert_eq!(check(&raw(9, 32, 1, 129, &[1])), Err(3));
+    assert_eq!(check(&raw(9, 32, 1, 257, &[1])), Err(3));
+    assert_eq!(check(&raw(8, 32, 1, 1, &[1])), Err(4));
+    assert_eq!(check(&raw(10, 32, 1, 1, &[1, 1])), Err(4));
+    assert_eq!(check(&raw(9, 32, 1, 1, &[1, 1])), Err(4));
+    assert_eq!(check(&raw(10, 32, 2, 2, &[0xc0, 0xc1])), Err(5));
+    assert_eq!(check(&raw(10, 32, 2, 2, &[0xc1, 0xc0])), Err(5));
+    assert_eq!(check(&raw(10, 32, 2, 2, &[0xc0, 0xc0])), Err(6));
+    assert_eq!(check(&raw(10, 32, 2, 2, &[0xc0, 0x40])), Ok((2, 2)));
+}
+
+#[test]
+fn a_total_of_exactly_two_to_the_n_is_accepted() {
+    for columns in [1, 2, 63, 64, 65, 127, 128] {
+        let half = format!("1{}", "0".repeat(columns - 1));
+        let one = format!("{}1", "0".repeat(columns - 1));
+        assert_eq!(check(&file_of(&[&half, &half])), Ok((2, columns)));
+        assert_eq!(check(&file_of(&[&half, &half, &one])), Err(6));
+        let full = "1".repeat(columns);
+        assert_eq!(check(&file_of(&[&full, &one])), Ok((2, columns)));
+        assert_eq!(check(&file_of(&[&full, &one, &one])), Err(6));
+    }
+    let full = "1".repeat(128);
+    assert_eq!(check(&file_of(&[full.as_str(); 128])), Err(6));
+}
+
+#[test]
+fn read_needs_room_for_the_entries() {
+    let file = file_of(&["10", "01", "01"]);
+    assert_eq!(read(&file, 5), Err(13));
+    assert_eq!(read(&file, 6).unwrap().entries, [1, 0, 0, 1, 0, 1]);
+    assert_eq!(read(&file, 600).unwrap().entries.len(), 6);
+    assert_eq!(read(&file_of(&["1", "1", "1"]), 0), Err(6));
+}
+
+#[test]
+fn write_tries_sizes_entries_bits_total_and_room() {
+    assert_eq!(write(0, 1, &[], 0), Err(3));
+    assert_eq!(write(1, 129, &[], 0), Err(3));
+    assert_eq!(write(65_536 + 1, 1, &[2], 0), Err(3));
+    assert_eq!(write(1, (1 << 32) + 1, &[2], 0), Err(3));
+    assert_eq!(write(usize::MAX, usize::MAX, &[2], 0), Err(3));
+    assert_eq!(write(2, 2, &[2, 1, 1], 0), Err(13));
+    assert_eq!(write(2, 2, &[1, 1, 1, 2], 0), Err(5));
+    assert_eq!(write(2, 2, &[1, 1, 1, 255], 10), Err(5));
+    assert_eq!(write(2, 2, &[1, 1, 1, 0], 0), Err(6));
+    assert_eq!(write(2, 2, &[1, 1, 0, 1], 9), Err(13));
+    assert_eq!(
+        write(2, 2, &[1, 1, 0, 1], 10),
+        Ok(raw(10, 32, 2, 2, &[0xc0, 0x40]))
+    );
+    assert_eq!(
+        write(2, 2, &[1, 1, 0, 1, 9, 9], 99),
+        Ok(raw(10, 32, 2, 2, &[0xc0, 0x40]))
+    );
+    assert_eq!(write(128, 128, &[0; 16_384], 2_055), Err(13));
+    assert_eq!(write(128, 128, &[0; 16_384], 2_056).unwrap().len(), 2_056);
+}
+
+#[test]
+fn build_tries_sizes_sum_and_room() {
+    assert_eq!(build(&[], 1, false, 0), Err(3));
+    assert_eq!(build(&[0; 129], 1, false, 0), Err(3));
+    assert_eq!(build(&[0], 0, false, 0), Err(3));
+    assert_eq!(build(&[0], 129, false, 0), Err(3));
+    assert_eq!(build(&[0], 65_536 + 1, false, 0), Err(3));
+    assert_eq!(build(&[0; 128], 128, true, 0), Err(11));
+    assert_eq!(build(&[1], 1, false, 8), Err(13));
+    assert_eq!(build(&[1], 1, false, 9), Ok(file_of(&["1"])));
+    let built = build(&[u32::MAX; 128], 128, false, 2_056).unwrap();
+    assert_eq!(check(&built), Ok((128, 128)));
+    assert_eq!(
+        &built[8..24],
+        [2, 0, 0, 0, 0, 0, 0, 0, 0, 0, 0, 0, 0, 0, 0, 0]
+    );
+}
+
+/// 2^128 / 3 is 55..55 in hexadecimal and 2^128 × 2 / 3 is aa..aa; all of S is 2^n - 1.
+#[test]
+fn quotients_are_exact() {
+    let file = build(&[1, 2, 0], 128, false, 56).unwrap();
+    assert_eq!(&file[8..24], [0x55; 16]);
+    assert_eq!(&file[24..40], [0xaa; 16]);
+    assert_eq!(&file[40..], [0; 16]);
+    assert_eq!(
+        &build(&[0, 7], 12, false, 12).unwrap()[8..],
+        [0, 0, 0xff, 0xf0]
+    );
+    // 2^8 × 1 / 2^32 is below 1, and 2^8 × (2^32 - 1) / 2^32 is above 255.
+    assert_eq!(&build(&[1, u32::MAX], 8, false, 10).unwrap()[8..], [0, 255]);
+}
+
+#[test]
+fn walk_tries_the_string_after_the_matrix() {
+    let file = file_of(&["10", "01", "01"]);
+    assert_eq!(walk(&file[..10], &[]), Err(1));
+    assert_eq!(walk(&file_of(&["1", "1", "1"]), &[]), Err(6));
+    assert_eq!(walk(&file, &[]), Err(13));
+    assert_eq!(walk(&file, &[0x01]), Err(5));
+    assert_eq!(walk(&file, &[0x20]), Err(5));
+    assert_eq!(walk(&file, &[0x80, 0xff]), Ok(Some(2)));
+    let nine = file_of(&["000000001"]);
+    assert_eq!(walk(&nine, &[0x00]), Err(13));
+    assert_eq!(walk(&nine, &[0x00, 0x7f]), Err(5));
+    assert_eq!(walk(&nine, &[0x00, 0x00]), Ok(Some(0)));
+    assert_eq!(walk(&nine, &[0x00, 0x80]), Ok(None));
+}
+
+#[test]
+fn a_distance_does_not_wrap() {
+    for columns in [33, 65, 66, 97, 128] {
+        let last = format!("{}1", "0".repeat(columns - 1));
+        let mut string = vec![0; columns.div_ceil(8)];
+        assert_eq!(walk(&file_of(&[&last]), &string), Ok(Some(0)));
+        string[0] = 0x80;
+        assert_eq!(walk(&file_of(&[&last]), &string), Ok(None));
+    }
+}
+
+#[test]
+fn compile_needs_room_for_the_whole_program() {
+    let file = file_of(&["1", "1"]);
+    assert_eq!(compile(&file, 113), Err(13));
+    assert_eq!(compile(&file, 114).unwrap().len(), 114);
+    assert_eq!(compile(&file[..9], 0), Err(1));
+    assert_eq!(compile(&file_of(&["1", "1", "1"]), 0), Err(6));
+}
+
+#[test]
+fn program_header_is_tried_first() {
+    let sound = code(1, 1, 1, 2, &[&ONES_0[..], &OUTPUT_0_0].concat());
+    assert!(program::check(&sound).is_ok());
+    let with = |at: usize, value: usize| {
+        let mut file = sound.clone();
+        file[at..at + 2].copy_from_slice(&(value as u16).to_le_bytes());
+        program::check(&file).map(|_| ())
+    };
+    assert_eq!(program::check(&sound[..13]), Err(1));
+    assert_eq!(with(2, 32), Err(2));
+    for (at, least, most) in [(4, 0, 1_025), (6, 0, 129), (8, 0, 9), (12, 3, 65_535)] {
+        assert_eq!(with(at, least), Err(3));
+        assert_eq!(with(at, most), Err(3));
+    }
+    for length in [0, 13, 15, 16, 65_535] {
+        assert_eq!(with(0, length), Err(4));
+    }
+    // 131,072 instructions are within the limits and one more is not.
+    assert_eq!(program::check(&code(1, 1, 1, 131_072, &[])), Err(1));
+    assert_eq!(program::check(&code(1, 1, 1, 131_073, &[])), Err(3));
+    let mut both = code(0, 1, 1, 0, &[]);
+    both[0] = 15;
+    assert_eq!(program::check(&both), Err(3));
+}
+
+#[test]
+fn instructions_are_tried_in_turn() {
+    let tried = |count: u32, bytes: &[u8]| program::check(&code(2, 1, 1, count, bytes)).map(|_| ());
+    assert_eq!(tried(0, &[]), Err(10));
+    assert_eq!(tried(0, &[0]), Err(4));
+    assert_eq!(tried(1, &[]), Err(1));
+    assert_eq!(tried(1, &[6, 0, 1]), Err(1));
+    assert_eq!(tried(1, &[8, 0, 9, 0, 0, 0]), Err(1));
+    assert_eq!(tried(1, &[0, 0, 1, 0]), Err(7));
+    assert_eq!(tried(1, &[3, 0, 1, 0]), Err(7));
+    assert_eq!(tried(1, &[4, 0, 1, 0]), Err(7));
+    assert_eq!(tried(1, &[6, 0, 0, 0, 9, 0]), Err(7));
+    assert_eq!(tried(1, &[6, 0, 8, 0, 9, 0]), Err(7));
+    assert_eq!(tried(1, &[8, 0, 1, 0, 9, 0, 0, 0]), Err(7));
+    assert_eq!(tried(1, &[6, 0, 1, 0, 2, 0]), Err(8));
+    assert_eq!(tried(1, &[8, 0, 3, 0, 0, 0, 1, 0]), Err(8));
+    assert_eq!(tried(1, &[8, 0, 7, 0, 1, 0, 0, 0]), Err(8));
+    assert_eq!(tried(1, &[10, 0, 5, 0, 0, 0, 0, 0, 2, 0]), Err(8));
+    assert_eq!(tried(1, &[10, 0, 5, 0, 0, 0, 0, 0, 0, 0]), Err(9));
+    assert_eq!(tried(1, &[8, 0, 4, 0, 0, 0, 1, 0]), Err(9));
+    assert_eq!(tried(1, &OUTPUT_0_0), Err(9));
+    assert_eq!(tried(1, &ONES_0), Err(10));
+    assert_eq!(tried(1, &[&ONES_0[..], &[0]].concat()), Err(4));
+    assert_eq!(tried(2, &[&ONES_0[..], &OUTPUT_0_0].concat()), Ok(()));
+    assert_eq!(tried(2, &[&ONES_0[..], &OUTPUT_0_0, &[0]].concat()), Err(4));
+    assert_eq!(tried(3, &[&ONES_0[..], &OUTPUT_0_0].concat()), Err(1));
+    // What is missing at the end is found after what is wrong before.
+    assert_eq!(
+        tried(3, &[&ONES_0[..], &[6, 0, 1, 0, 2, 0]].concat()),
+        Err(8)
+    );
+}
+
+#[test]
+fn runs_try_the_program_then_position_then_words() {
+    let program = translate(&Matrix::from_texts(&["1"])).encode();
+    let header = program::check(&program).unwrap();
+    assert_eq!(
+        (
+            header.registers,
+            header.inputs,
+            header.outputs,
+            header.count
+        ),
+        (6, 1, 1, 9)
+    );
+    for budget in [0, 9, u32::MAX] {
+        assert_eq!(start(&program[1..], &[], 0, 0, budget), Err(2));
+        assert_eq!(start(&program, &[], 6, 1, budget), Err(13));
+        assert_eq!(start(&program, &[1], 5, 1, budget), Err(13));
+        assert_eq!(start(&program, &[1], 6, 0, budget), Err(13));
+        assert_eq!(resume(&program[..89], &[], &[], &[], 10, budget), Err(1));
+        assert_eq!(resume(&program, &[], &[], &[], 10, budget), Err(12));
+        assert_eq!(resume(&program, &[], &[0; 6], &[0], 9, budget), Err(13));
+    }
+    let run = start(&program, &[1, 2], 8, 3, 0).unwrap();
+    assert_eq!((run.finished, run.position, run.count), (false, 0, 0));
+    assert_eq!((run.registers, run.outputs), (vec![0; 6], vec![0]));
+}
+
+#[test]
+fn resume_touches_nothing_at_the_end() {
+    let program = translate(&Matrix::from_texts(&["1"])).encode();
+    let run = resume(&program, &[7], &[3; 9], &[4; 2], 9, u32::MAX).unwrap();
+    assert_eq!((run.finished, run.position, run.count), (true, 9, 0));
+    assert_eq!((run.registers, run.outputs), (vec![3; 6], vec![4]));
+}
+
+#[test]
+fn slice_tries_columns_strings_bits_and_words() {
+    for columns in [0, 129, 65_536 + 8, (1 << 32) + 8] {
+        assert_eq!(slice(columns, &[1], 0), Err(3));
+    }
+    assert_eq!(slice(7, &[1; 63], 0), Err(13));
+    let mut strings = [0x80; 64];
+    assert_eq!(slice(7, &strings, 6), Err(13));
+    assert_eq!(slice(7, &strings, 7).unwrap(), [u64::MAX, 0, 0, 0, 0, 0, 0]);
+    strings[63] = 0x81;
+    assert_eq!(slice(7, &strings, 6), Err(5));
+    assert_eq!(slice(8, &strings, 8).unwrap()[7], 1 << 63);
+    assert_eq!(slice(9, &strings, 9), Err(13));
+}
+
+#[test]
+fn samples_of_output_words() {
+    assert_eq!(samples(&[], 64), Err(3));
+    assert_eq!(samples(&[0; 9], 0), Err(3));
+    assert_eq!(samples(&[0; 8], 63), Err(13));
+    assert_eq!(signed_samples(&[0; 9], 0, 0), Err(3));
+    assert_eq!(signed_samples(&[0; 8], 0, 63), Err(13));
+    // Lane 0: 127. Lane 1: a miss with all else set. Lane 2: 0. Lane 3: 64. Others miss.
+    let words = [
+        0b1101, 0b0011, 0b0011, 0b0011, 0b0011, 0b0011, 0b0011, 0b1011,
+    ];
+    let laid = samples(&words, 70).unwrap();
+    assert_eq!(laid[..5], [127, 255, 0, 64, 255]);
+    assert_eq!(laid.len(), 64);
+    assert_eq!(
+        signed_samples(&words, 0, 64).unwrap()[..5],
+        [127, 32_767, 0, 64, 32_767]
+    );
+    let laid = signed_samples(&words, u64::MAX, 64).unwrap();
+    assert_eq!(laid[..5], [-127, 32_767, 0, -64, 32_767]);
+}
+
+#[test]
+fn draw_tries_program_strings_bits_and_samples() {
+    let program = translate(&Matrix::from_texts(&["10", "01", "01"])).encode();
+    let mut strings: Vec<u8> = (0..64).map(|lane| (lane % 4) << 6).collect();
+    assert_eq!(draw(&program[..9], &[], 0), Err(1));
+    assert_eq!(draw(&program, &[0xff; 63], 0), Err(13));
+    assert_eq!(draw(&program, &[0xff; 64], 0), Err(5));
+    assert_eq!(draw(&program, &strings, 63), Err(13));
+    assert_eq!(draw_signed(&program, &[0xff; 64], 0, 0), Err(5));
+    assert_eq!(draw_signed(&program, &strings, 0, 63), Err(13));
+    assert_eq!(draw(&program, &strings, 64).unwrap()[..4], [0, 0, 2, 1]);
+    assert_eq!(
+        draw_signed(&program, &strings, 6, 64).unwrap()[..4],
+        [0, 0, -2, 1]
+    );
+    strings[63] |= 1;
+    assert_eq!(draw(&program, &strings, 64), Err(5));
+}
+
+#[test]
+fn lister_lists_up_to_its_limit() {
+    let listed = with_program_length(MOST_LISTED).unwrap();
+    assert_eq!(translate(&listed).encode().len(), 65_536);
+    let first = format!(
+        "394 {} 8 {}\n",
+        listed.columns,
+        translate(&listed).header.count
+    );
+    assert!(lister(&listed.encode()).starts_with(&first));
+    let unlisted = with_program_length(MOST_LISTED + 2).unwrap();
+    assert_eq!(translate(&unlisted).encode().len(), 65_538);
+    assert_eq!(lister(&unlisted.encode()), "refused 13\n");
+}
+
+#[test]
+fn lister_refuses_long_files() {
+    let mut long = file_of(&["1", "1"]);
+    long.resize(70_000, 0);
+    assert_eq!(lister(&long), "refused 4\n");
+    // The first 65,536 bytes are enough to tell.
+    assert_eq!(lister(&long[..65_536]), "refused 4\n");
+}

@@ -1,0 +1,145 @@
+//! The vectors: the same each time, small enough to store, and answered from their own text.
+
+use reference::vectors::answer::answer;
+use reference::vectors::{each_given, LONGEST_LINE};
+
+fn lines(scale: usize) -> Vec<String> {
+    let mut lines = Vec::new();
+    each_given(scale, |given| {
+        let answer = answer(given).expect("every line made here is well formed");
+        lines.push(format!("{given} = {answer}\n"));
+    });
+    lines
+}
+
+#[test]
+fn the_small_set_can_be_stored() {
+    let lines = lines(1);
+    let size: usize = lines.iter().map(String::len).sum();
+    assert!(size < 300_000, "{size} bytes");
+    assert!(lines.len() > 500, "{} lines", lines.len());
+}
+
+#[test]
+fn vectors_are_the_same_each_time() {
+    assert_eq!(lines(1), lines(1));
+}
+
+#[test]
+fn lines_are_of_the_promised_form() {
+    for line in lines(8) {
+        assert!(line.len() <= LONGEST_LINE, "{} bytes", line.len());
+        assert_eq!(line.matches(" = ").count(), 1);
+        let fields = line.trim_end().split(' ');
+        let sound = |field: &str| {
+            let digits = field.strip_prefix('#').unwrap_or(field);
+            ["=", "-"].contains(&field)
+                || !digits.is_empty()
+                    && digits
+                        .bytes()
+                        .all(|byte| b"0123456789abcdef".contains(&byte))
+        };
+        assert!(fields.clone().all(sound), "{line}");
+    }
+}
+
+/// Every operation is answered, and every refusal that it can give is met.
+#[test]
+fn refusals_are_all_met() {
+    let lines = lines(1);
+    let met = |task: &str, answer: &str| {
+        lines.iter().any(|line| {
+            let (given, rest) = line.trim_end().split_once(" = ").unwrap();
+            given.split(' ').next() == Some(task) && rest.split(' ').next() == Some(answer)
+        })
+    };
+    let matrix = ["0", "1", "2", "3", "4", "5", "6"];
+    let program = ["0", "1", "2", "3", "4", "7", "8", "9", "a"];
+    for (task, more) in [("1", "d"), ("4", "d"), ("5", "d"), ("10", "0")] {
+        matrix
+            .iter()
+            .chain([&more])
+            .for_each(|answer| assert!(met(task, answer), "{task} {answer}"));
+    }
+    for (task, more) in [
+        ("6", "0"),
+        ("7", "d"),
+        ("8", "c"),
+        ("8", "d"),
+        ("c", "d"),
+        ("c", "5"),
+    ] {
+        program
+            .iter()
+            .chain([&more])
+            .for_each(|answer| assert!(met(task, answer), "{task} {answer}"));
+    }
+    for (task, answers) in [
+        ("2", "0 3 5 6 d"),
+        ("3", "0 3 b d"),
+        ("9", "0 3 5 d"),
+        ("a", "0 3 d"),
+        ("b", "0 3 d"),
+        ("d", "0 5 d"),
+        ("11", "0"),
+        ("12", "0"),
+        ("13", "0 1 3 4"),
+        ("14", "0"),
+    ] {
+        answers
+            .split(' ')
+            .for_each(|answer| assert!(met(task, answer), "{task} {answer}"));
+    }
+}
+
+/// README, "How large the fields get": task, field, digits an element (0 for a number), the most.
+const SIZES: [(&str, usize, usize, u64); 33] = [
+    ("1", 1, 2, 2_100),
+    ("4", 1, 2, 2_100),
+    ("5", 1, 2, 2_100),
+    ("10", 1, 2, 2_100),
+    ("11", 1, 2, 2_100),
+    ("12", 1, 2, 2_100),
+    ("6", 1, 2, 600),
+    ("7", 1, 2, 600),
+    ("8", 1, 2, 600),
+    ("c", 1, 2, 600),
+    ("d", 1, 2, 600),
+    ("1", 2, 0, 16_384),
+    ("2", 3, 2, 2_048),
+    ("2", 4, 0, 4_096),
+    ("3", 1, 8, 129),
+    ("3", 4, 0, 4_096),
+    ("4", 2, 2, 16),
+    ("5", 2, 0, 1_310_734),
+    ("7", 2, 16, 128),
+    ("7", 3, 0, 16),
+    ("7", 4, 0, 10),
+    ("8", 2, 16, 128),
+    ("8", 3, 16, 16),
+    ("8", 4, 16, 10),
+    ("9", 2, 2, 1_024),
+    ("9", 3, 0, 129),
+    ("a", 1, 16, 10),
+    ("a", 2, 0, 65),
+    ("b", 1, 16, 10),
+    ("b", 3, 0, 65),
+    ("c", 3, 0, 65),
+    ("d", 4, 0, 65),
+    ("12", 3, 8, 8),
+];
+
+#[test]
+fn fields_stay_within_their_sizes() {
+    each_given(20, |given| {
+        let fields: Vec<&str> = given.split(' ').collect();
+        for &(task, at, digits, most) in SIZES.iter().filter(|size| size.0 == fields[0]) {
+            let size = match fields[at] {
+                "-" => 0,
+                number if digits == 0 => u64::from_str_radix(number, 16).unwrap(),
+                array => (array.len() / digits) as u64,
+            };
+            assert!(size <= most, "task {task}, field {at}: {size}");
+        }
+    });
+}

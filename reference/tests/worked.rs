@@ -1,0 +1,162 @@
+//! 01, "Checked by hand": every case, with the answers that stand there.
+
+use reference::compiler::{compile, translate};
+use reference::listing::lister;
+use reference::machine::{resume, start};
+use reference::matrix::{check, read, write, Matrix};
+use reference::program;
+use reference::walk::walk;
+use reference::weights::build;
+
+fn file_of(rows: &[&str]) -> Vec<u8> {
+    Matrix::from_texts(rows).encode()
+}
+
+fn listed_program() -> Vec<u8> {
+    compile(&file_of(&["1", "1"]), usize::MAX).unwrap()
+}
+
+#[test]
+fn three_rows_of_two_columns() {
+    let file = [0x0b, 0, 0x20, 0, 3, 0, 2, 0, 0x80, 0x40, 0x40];
+    assert_eq!(file_of(&["10", "01", "01"]), file);
+    assert_eq!(write(3, 2, &[1, 0, 0, 1, 0, 1], 11), Ok(file.to_vec()));
+    let matrix = read(&file, 6).unwrap();
+    assert_eq!((matrix.rows, matrix.columns), (3, 2));
+    assert_eq!(matrix.entries, [1, 0, 0, 1, 0, 1]);
+    assert_eq!(walk(&file, &[0b0000_0000]), Ok(Some(0)));
+    assert_eq!(walk(&file, &[0b0100_0000]), Ok(Some(0)));
+    assert_eq!(walk(&file, &[0b1000_0000]), Ok(Some(2)));
+    assert_eq!(walk(&file, &[0b1100_0000]), Ok(Some(1)));
+}
+
+#[test]
+fn one_row_of_one_column() {
+    assert_eq!(walk(&file_of(&["1"]), &[0x00]), Ok(Some(0)));
+    assert_eq!(walk(&file_of(&["1"]), &[0x80]), Ok(None));
+    assert_eq!(walk(&file_of(&["0"]), &[0x00]), Ok(None));
+    assert_eq!(walk(&file_of(&["0"]), &[0x80]), Ok(None));
+}
+
+#[test]
+fn sums_and_sizes() {
+    assert_eq!(check(&file_of(&["10", "10", "01"])), Err(6));
+    let zeros = |rows| Matrix {
+        rows,
+        columns: 8,
+        entries: vec![0; rows * 8],
+    };
+    assert_eq!(check(&zeros(128).encode()), Ok((128, 8)));
+    assert_eq!(check(&zeros(129).encode()), Err(3));
+}
+
+#[test]
+fn weights() {
+    for signed in [false, true] {
+        let thirds = build(&[1, 1, 1], 2, signed, 11).unwrap();
+        assert_eq!(thirds, file_of(&["01", "01", "01"]));
+        assert_eq!(walk(&thirds, &[0xc0]), Ok(None));
+        assert_eq!(build(&[5], 3, signed, 9), Ok(file_of(&["111"])));
+        assert_eq!(build(&[0, 0], 3, signed, 10), Err(11));
+    }
+}
+
+#[test]
+fn listing() {
+    let text = "10 1 2 12
+0 ONES 4
+1 ZERO 2
+2 ZERO 3
+3 INPUT 0 0
+4 NOT 1 0
+5 AND 6 4 1
+6 AND 7 4 0
+7 OR 2 2 6
+8 OR 3 3 6
+9 OR 2 2 7
+10 OUTPUT 0 2
+11 OUTPUT 1 3
+";
+    assert_eq!(lister(&file_of(&["1", "1"])), text);
+    assert_eq!(lister(&file_of(&["10", "10", "01"])), "refused 6\n");
+    assert_eq!(lister(&[]), "refused 1\n");
+}
+
+#[test]
+fn bytes_of_the_listed_program() {
+    let instructions: [&[u8]; 12] = [
+        &[6, 0, 1, 0, 4, 0],
+        &[6, 0, 2, 0, 2, 0],
+        &[6, 0, 2, 0, 3, 0],
+        &[8, 0, 3, 0, 0, 0, 0, 0],
+        &[8, 0, 4, 0, 1, 0, 0, 0],
+        &[10, 0, 5, 0, 6, 0, 4, 0, 1, 0],
+        &[10, 0, 5, 0, 7, 0, 4, 0, 0, 0],
+        &[10, 0, 6, 0, 2, 0, 2, 0, 6, 0],
+        &[10, 0, 6, 0, 3, 0, 3, 0, 6, 0],
+        &[10, 0, 6, 0, 2, 0, 2, 0, 7, 0],
+        &[8, 0, 7, 0, 0, 0, 2, 0],
+        &[8, 0, 7, 0, 1, 0, 3, 0],
+    ];
+    let mut file = vec![14, 0, 16, 0, 10, 0, 1, 0, 2, 0, 12, 0, 0, 0];
+    file.extend(instructions.concat());
+    assert_eq!(listed_program(), file);
+    let header = program::check(&file).unwrap();
+    let numbers = (
+        header.registers,
+        header.inputs,
+        header.outputs,
+        header.count,
+    );
+    assert_eq!(numbers, (10, 1, 2, 12));
+}
+
+#[test]
+fn budgets_of_the_listed_program() {
+    let program = listed_program();
+    let finished = start(&program, &[0b01], 10, 2, 12).unwrap();
+    assert_eq!(
+        (finished.finished, finished.position, finished.count),
+        (true, 12, 12)
+    );
+    assert_eq!(finished.outputs, [u64::MAX, u64::MAX - 1]);
+    let stopped = start(&program, &[0b01], 10, 2, 11).unwrap();
+    assert_eq!(
+        (stopped.finished, stopped.position, stopped.count),
+        (false, 11, 11)
+    );
+    assert_eq!(stopped.outputs, [u64::MAX, 0]);
+    let done = resume(
+        &program,
+        &[0b01],
+        &finished.registers,
+        &finished.outputs,
+        12,
+        0,
+    )
+    .unwrap();
+    assert_eq!((done.finished, done.position, done.count), (true, 12, 0));
+    assert_eq!(
+        (done.registers, done.outputs),
+        (finished.registers.clone(), finished.outputs.clone())
+    );
+    let beyond = resume(
+        &program,
+        &[0b01],
+        &finished.registers,
+        &finished.outputs,
+        13,
+        0,
+    );
+    assert_eq!(beyond, Err(12));
+}
+
+/// "Misreadings to shut out": from row 0 upward, string 10 would give 1 and 11 would give 2.
+#[test]
+fn rows_are_met_from_the_last_down() {
+    let program = translate(&Matrix::from_texts(&["10", "01", "01"])).encode();
+    // Lanes 0 to 3 carry 00, 01, 10, 11.
+    let run = start(&program, &[0b1100, 0b1010], 14, 3, u32::MAX).unwrap();
+    let lanes: Vec<u64> = run.outputs.iter().map(|word| word & 15).collect();
+    assert_eq!(lanes, [0b1111, 0b1000, 0b0100]);
+}
