@@ -21,8 +21,9 @@ use Rattle.laws.specs.Outcome.{Outcome, refused, gives, refuse, _>>_, gives-inj
 use Rattle.files.specs.Fields.{bitOf, packedBit, bit-le, spare, width}
 use Rattle.files.specs.Matrix.{outside, most-columns}
 use Rattle.files.specs.Strings.{stringsOf}
+use Rattle.walk.specs.Walk.{Answer, sample, missed}
 use Rattle.lanes.specs.Slicing.{lanes, sliceOf, stringAt, wordOf}
-use Rattle.lanes.specs.Samples.{Given, sample, missed, code, eachLane, hits, most-outputs, sampleOf, sampled, samplesOf, signedCode, signedSamplesOf, spelled}
+use Rattle.lanes.specs.Samples.{code, eachLane, hits, most-outputs, sampleOf, sampled, samplesOf, signedCode, signedSamplesOf, spelled}
 use Rattle.lanes.specs.declared.sampling.Sampled.the-variants as Sampled
 
 -- what a result holds at a place is what the buffer holds there
@@ -160,11 +161,11 @@ module _ {A : Type 0} (outputs : List ℕ) (buf : List A) (f : ℕ → A)
 
 -- Where lane j of the outputs gives g, sample j is g's code; and with a sign word, its signed code.
 pub samples-say : (outputs buf : List ℕ) → sampled Sampled.All ≡ mapped (λ xs. tt) (samplesOf outputs (length buf)) →
-    (j : ℕ) (g : Given) → j < lanes → sampleOf outputs j ≡ g → getD (lay (laid (λ xs. xs) (samplesOf outputs (length buf))) buf) j 0 ≡ code g
+    (j : ℕ) (g : Answer) → j < lanes → sampleOf outputs j ≡ g → getD (lay (laid (λ xs. xs) (samplesOf outputs (length buf))) buf) j 0 ≡ code g
 samples-say outputs buf e j g h q = lane-read outputs buf (λ j. code (sampleOf outputs j)) e j 0 h ∙ ap code q
 
 pub signed-say : (outputs : List ℕ) (sign : ℕ) (buf : List ℤ) → sampled Sampled.All ≡ mapped (λ xs. tt) (signedSamplesOf outputs sign (length buf)) →
-    (j : ℕ) (g : Given) → j < lanes → sampleOf outputs j ≡ g →
+    (j : ℕ) (g : Answer) → j < lanes → sampleOf outputs j ≡ g →
     getD (lay (laid (λ xs. xs) (signedSamplesOf outputs sign (length buf))) buf) j (pos 0) ≡ signedCode (bitAt sign j) g
 signed-say outputs sign buf e j g h q =
     lane-read outputs buf (λ j. signedCode (bitAt sign j) (sampleOf outputs j)) e j (pos 0) h ∙ ap (signedCode (bitAt sign j)) q
@@ -182,7 +183,7 @@ pub miss-stays : (bit : ℕ) → signedCode bit missed ≡ pos 32767
 miss-stays bit = refl
 
 -- a number in 7 bits, or a miss: what a lane of at most 8 outputs gives
-abbrev pub Small : Given → Type 0
+abbrev pub Small : Answer → Type 0
 Small (sample x) = x < 128
 Small missed = Unit {0}
 
@@ -202,7 +203,7 @@ given-small outputs j h = either (hits outputs j)
     either false = tt
 
 -- so the codes tell what was given: 255 and 32,767 stand for a miss and for nothing else
-pub code-tells : (g h : Given) → Small g → Small h → code g ≡ code h → g ≡ h
+pub code-tells : (g h : Answer) → Small g → Small h → code g ≡ code h → g ≡ h
 code-tells (sample x) (sample y) a b e = ap sample e
 code-tells (sample x) missed a b e = absurd (omega arith)
 code-tells missed (sample y) a b e = absurd (omega arith)
@@ -217,7 +218,7 @@ distance bit x = either (eqb bit 1) x
     either true (suc x) = refl
     either false x = refl
 
-pub signed-tells : (bit : ℕ) (g h : Given) → Small g → Small h → signedCode bit g ≡ signedCode bit h → g ≡ h
+pub signed-tells : (bit : ℕ) (g h : Answer) → Small g → Small h → signedCode bit g ≡ signedCode bit h → g ≡ h
 signed-tells bit (sample x) (sample y) a b e = ap sample (sym (distance bit x) ∙ (ap natAbs e ∙ distance bit y))
 signed-tells bit (sample x) missed a b e = absurd (omega (arith, distance bit x, ap natAbs e))
 signed-tells bit missed (sample y) a b e = absurd (omega (arith, distance bit y, ap natAbs e))

@@ -17,6 +17,7 @@ use Rattle.laws.specs.Lay.{upto}
 use Rattle.laws.specs.Outcome.{Outcome, refused, gives, refuse, _>>_}
 use Rattle.files.specs.Matrix.{outside}
 use Rattle.files.specs.Refusal.{numberOf}
+use Rattle.walk.specs.Walk.{Answer, sample, missed}
 use Rattle.lanes.specs.Slicing.{lanes}
 use Rattle.lanes.specs.declared.sampling.Sampled.{Sampled}
 use Rattle.lanes.specs.declared.sampling.Sampled.the-variants as Sampled
@@ -24,11 +25,6 @@ use Rattle.lanes.specs.declared.sampling.Sampled.the-variants as Sampled
 -- the limit: 1 to 8 output words
 abbrev pub most-outputs : ℕ
 most-outputs = 8
-
--- what a lane of the outputs gives
-pub data Given : Type 0 where
-  sample : ℕ → Given
-  missed : Given
 
 -- whether bit j of output 0 is set
 unfoldable pub hits : List ℕ → ℕ → Bool
@@ -39,11 +35,11 @@ unfoldable pub spelled : List ℕ → ℕ → ℕ
 spelled outputs j = pack (length outputs - 1) (λ t. bitAt (getD outputs (t + 1) 0) j)
 
 -- If bit j of output 0 is set, lane j gives the sample that bit j of outputs 1 and up spells; if not, it misses.
-unfoldable pub sampleOf : List ℕ → ℕ → Given
+unfoldable pub sampleOf : List ℕ → ℕ → Answer
 sampleOf outputs j = cond (hits outputs j) (sample (spelled outputs j)) missed
 
 -- as a sample: the number, or 255
-abbrev pub code : Given → ℕ
+abbrev pub code : Answer → ℕ
 code (sample x) = x
 code missed = 255
 
@@ -52,7 +48,7 @@ abbrev pub negatedIf : ℕ → ℕ → ℤ
 negatedIf bit x = cond (eqb bit 1) (negℤ (pos x)) (pos x)
 
 -- as a signed sample: the number, negated if the lane's bit of the sign word is set, or 32,767
-abbrev pub signedCode : ℕ → Given → ℤ
+abbrev pub signedCode : ℕ → Answer → ℤ
 signedCode bit (sample x) = negatedIf bit x
 signedCode bit missed = pos 32767
 

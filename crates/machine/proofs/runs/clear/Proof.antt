@@ -1,0 +1,53 @@
+-- `machine::clear` meets its contract: the words passed are 0. Assumes nothing.
+use borrow.Author.Needs.{needs}
+use native.Mathlib.Omega.{arith}
+use Prim.Native.Nat.{_-_, _≤_}
+use lib.ListN.{length}
+use Rattle.machine.specs.Turns.{Cleared, cleared-none, cleared-more, cleared-all}
+use Rattle.machine.proofs.runs.clear.Statement.{statement}
+use Rattle.machine.proofs.runs.clear.Tie as tie
+
+abbrev Inv-loop : tie.InvT-loop
+Inv-loop words₀ i₀ i-end words i = Cleared i words₀ words × (i ≤ length words₀)
+
+abbrev μ-loop : tie.MeasureT-loop
+μ-loop words₀ i₀ i-end words i = length words₀ - i
+
+loop-holds : tie.Need-loop-holds Inv-loop μ-loop
+loop-holds c = (cleared-none _, search needs)
+
+mul-words : tie.Need-mul-words Inv-loop μ-loop
+mul-words c = search needs
+
+slice-write-words : tie.Need-slice-write-words Inv-loop μ-loop
+slice-write-words c = search needs
+
+add-i : tie.Need-add-i Inv-loop μ-loop
+add-i c = search needs
+
+loop-less : tie.Need-loop-less Inv-loop μ-loop
+loop-less c = search needs
+
+loop-again : tie.Need-loop-again Inv-loop μ-loop
+loop-again c = (cleared-more _ _ _ (c .loop-test .taken) (c .before .loop .inv .0), search needs)
+
+same-length : tie.Need-same-length Inv-loop μ-loop
+same-length c = c .before .loop .inv .0 .long
+
+returns : tie.Need-returns Inv-loop μ-loop
+returns c = cleared-all _ _ _ (c .loop-test .left) (c .before .loop .inv .1) (c .before .loop .inv .0)
+
+pub clear-spec : {M : Type 1} → statement M
+clear-spec =
+    tie.close
+    (tie.spec
+    Inv-loop
+    μ-loop
+    loop-holds
+    mul-words
+    slice-write-words
+    add-i
+    loop-less
+    loop-again
+    same-length
+    returns)

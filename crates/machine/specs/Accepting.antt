@@ -1,0 +1,247 @@
+-- What a program must be to be accepted, as a judgment on its instructions, with laws for lists of them: the checker's tests from the other side.
+-- Assumes nothing.
+use Prim.Native.Nat.{ℕ, zero, suc, _+_, _*_, _/_, _%_, _<_}
+use mathlib.Core.Path.{_≡_, refl, sym, ap, _∙_}
+use mathlib.Core.Bool.{Bool, true, false, not, _||_}
+use mathlib.Core.List.{List, [], _∷_, _++_}
+use mathlib.Core.Logic.{_⊎_, inl, inr, ⊎-elim}
+use native.Mathlib.Omega.{arith}
+use borrow.Author.Tests.{lt-ltb, le-ltb, eq-eqb}
+use lib.Dec.{eqb, ltb}
+use lib.ListN.{length, drop, length-append}
+use lib.Seq.{drop-at}
+use Rattle.laws.specs.Sums.{any-all}
+use Rattle.laws.specs.Lay.{blocks}
+use Rattle.laws.specs.Outcome.{gives}
+use Rattle.files.specs.Fields.{fieldOf}
+use Rattle.programs.specs.Limits.{within}
+use Rattle.programs.specs.Records.{recordBytes}
+use Rattle.programs.specs.Instructions.{uses, lengthOf, ofKind, instructionBytes, decodeOf, sizedOf}
+use Rattle.programs.specs.Header.{header-length, header-kind, headerBytes, headerOf, numbersOf, codeBytes, programFile}
+use Rattle.programs.specs.Reading.{length-instruction, header-read}
+use Rattle.programs.specs.Inverse.{length-some}
+use Rattle.programs.specs.declared.description.Program.{Program}
+use Rattle.programs.specs.declared.description.Instruction.{Instruction}
+use Rattle.programs.specs.declared.description.Instruction.the-variants.{Ones, Zero, Input, Not, And, Or, Output}
+use Rattle.machine.specs.Checks.{every, also, inRange, instructionOf, codeOf, nothing, checkOf}
+
+-- ---- the judgment
+-- a fact of each element of a list
+abbrev pub Each : {A : Type 0} → (A → Type 0) → List A → Type 0
+Each P [] = Unit {0}
+Each P (x ∷ xs) = P x × Each P xs
+
+-- a number is one of the list's
+abbrev pub OneOf : List ℕ → ℕ → Type 0
+OneOf [] x = ⊥
+OneOf (y ∷ ys) x = (x ≡ y) ⊎ OneOf ys x
+
+-- each operand is below its count
+abbrev pub Fits : Program → Instruction → Type 0
+Fits p i =
+    Each (λ r. r < p .registers) (uses i .writes) × Each (λ r. r < p .registers) (uses i .reads) ×
+    Each (λ n. n < p .inputs) (uses i .takes) × Each (λ o. o < p .outputs) (uses i .sets)
+
+-- where the registers of W are written before, each instruction reads only what is written, and those of U are written after
+abbrev pub Ready : (ℕ → Type 0) → List Instruction → (ℕ → Type 0) → Type 0
+Ready W [] U = (r : ℕ) → U r → W r
+Ready W (i ∷ is) U = Each W (uses i .reads) × Ready (λ r. OneOf (uses i .writes) r ⊎ W r) is U
+
+-- some instruction sets output o
+abbrev pub Sets : ℕ → List Instruction → Type 0
+Sets o [] = ⊥
+Sets o (i ∷ is) = OneOf (uses i .sets) o ⊎ Sets o is
+
+-- no register
+abbrev pub none : ℕ → Type 0
+none r = ⊥
+
+-- what the checker asks of a header and the instructions behind it
+pub record Sound (p : Program) (is : List Instruction) : Type 0 where
+  pub limits : within p ≡ true
+  pub counted : p .count ≡ length is
+  pub in-range : Each (Fits p) is
+  pub written : Ready none is none
+  pub all-set : (o : ℕ) → o < p .outputs → Sets o is
+
+-- ---- laws for lists of instructions
+pub each-append : {A : Type 0} (P : A → Type 0) (xs ys : List A) → Each P xs → Each P ys → Each P (xs ++ ys)
+each-append P [] ys a b = b
+each-append P (x ∷ xs) ys a b = (a .0, each-append P xs ys (a .1) b)
+
+pub each-blocks : {A : Type 0} (P : A → Type 0) (f : ℕ → List A) (n : ℕ) → ((i : ℕ) → i < n → Each P (f i)) → Each P (blocks n f)
+unfolding blocks
+each-blocks P f zero g = tt
+each-blocks P f (suc n) g = each-append P (blocks n f) (f n) (each-blocks P f n (λ i l. g i (omega arith))) (g n (omega arith))
+
+pub each-more : {A : Type 0} (P Q : A → Type 0) (xs : List A) → ((x : A) → P x → Q x) → Each P xs → Each Q xs
+each-more P Q [] f e = tt
+each-more P Q (x ∷ xs) f e = (f x (e .0), each-more P Q xs f (e .1))
+
+-- with more written before
+pub ready-more : (is : List Instruction) (W Z U : ℕ → Type 0) → ((r : ℕ) → W r → Z r) → Ready W is U → Ready Z is U
+ready-more [] W Z U f e = λ r u. f r (e r u)
+ready-more (i ∷ is) W Z U f e = (
+  each-more W Z (uses i .reads) f (e .0),
+  ready-more is (λ r. OneOf (uses i .writes) r ⊎ W r) (λ r. OneOf (uses i .writes) r ⊎ Z r) U
+      (λ r x. ⊎-elim (λ (y : OneOf (uses i .writes) r). inl y) (λ (y : W r). inr (f r y)) x) (e .1),
+)
+
+-- with less asked for after
+pub ready-less : (is : List Instruction) (W U Z : ℕ → Type 0) → ((r : ℕ) → Z r → U r) → Ready W is U → Ready W is Z
+ready-less [] W U Z f e = λ r z. e r (f r z)
+ready-less (i ∷ is) W U Z f e = (e .0, ready-less is (λ r. OneOf (uses i .writes) r ⊎ W r) U Z f (e .1))
+
+pub ready-append : (is js : List Instruction) (W U Z : ℕ → Type 0) → Ready W is U → Ready U js Z → Ready W (is ++ js) Z
+ready-append [] js W U Z e d = ready-more js U W Z e d
+ready-append (i ∷ is) js W U Z e d = (e .0, ready-append is js (λ r. OneOf (uses i .writes) r ⊎ W r) U Z (e .1) d)
+
+pub ready-blocks : (I : ℕ → ℕ → Type 0) (f : ℕ → List Instruction) (n : ℕ) → ((i : ℕ) → i < n → Ready (I i) (f i) (I (suc i))) →
+    Ready (I 0) (blocks n f) (I n)
+unfolding blocks
+ready-blocks I f zero g = λ r x. x
+ready-blocks I f (suc n) g = ready-append (blocks n f) (f n) (I 0) (I n) (I (suc n)) (ready-blocks I f n (λ i l. g i (omega arith))) (g n (omega arith))
+
+-- what is written stays written
+pub ready-stay : (W : ℕ → Type 0) (is : List Instruction) → Each (λ i. Each W (uses i .reads)) is → Ready W is W
+ready-stay W [] e = λ r x. x
+ready-stay W (i ∷ is) e = (e .0, ready-more is W (λ r. OneOf (uses i .writes) r ⊎ W r) W (λ r x. inr x) (ready-stay W is (e .1)))
+
+pub sets-left : (o : ℕ) (is js : List Instruction) → Sets o is → Sets o (is ++ js)
+sets-left o [] js x = absurd x
+sets-left o (i ∷ is) js (inl x) = inl x
+sets-left o (i ∷ is) js (inr x) = inr (sets-left o is js x)
+
+pub sets-right : (o : ℕ) (is js : List Instruction) → Sets o js → Sets o (is ++ js)
+sets-right o [] js x = x
+sets-right o (i ∷ is) js x = inr (sets-right o is js x)
+
+-- ---- what is written is read back
+field-back : (x : ℕ) → x % 256 + 256 * (x / 256) ≡ x
+field-back x = omega arith
+
+module _ (i : Instruction) (rest : List ℕ) where
+  abbrev ahead : List ℕ
+  ahead = instructionBytes i ++ rest
+
+  read-back : fieldOf ahead 0 ≡ lengthOf i → ofKind (fieldOf ahead 2) (fieldOf ahead 4) (fieldOf ahead 6) (fieldOf ahead 8) ≡ gives i →
+      decodeOf ahead ≡ gives i
+  unfolding decodeOf sizedOf
+  read-back l k =
+      let long : length ahead ≡ lengthOf i + length rest =
+      length-append (instructionBytes i) rest ∙ ap (λ (n : ℕ). n + length rest) (length-instruction i) in
+      rw (
+        le-ltb (length ahead) 4 (omega (arith, length-some i)),
+        l,
+        le-ltb (length ahead) (lengthOf i) (omega arith),
+        k,
+        eq-eqb (lengthOf i) (lengthOf i) refl,
+      )
+
+pub decode-written : (i : Instruction) (rest : List ℕ) → decodeOf (instructionBytes i ++ rest) ≡ gives i
+unfolding instructionBytes recordBytes fieldOf
+decode-written (Ones to) rest = read-back (Ones to) rest refl (rw (field-back to))
+decode-written (Zero to) rest = read-back (Zero to) rest refl (rw (field-back to))
+decode-written (Input to n) rest = read-back (Input to n) rest refl (rw (field-back to, field-back n))
+decode-written (Not to a) rest = read-back (Not to a) rest refl (rw (field-back to, field-back a))
+decode-written (And to a b) rest = read-back (And to a b) rest refl (rw (field-back to, field-back a, field-back b))
+decode-written (Or to a b) rest = read-back (Or to a b) rest refl (rw (field-back to, field-back a, field-back b))
+decode-written (Output o a) rest = read-back (Output o a) rest refl (rw (field-back o, field-back a))
+
+count-back : (x : ℕ) → x % 65536 % 256 + 256 * (x % 65536 / 256) + 65536 * (x / 65536 % 256 + 256 * (x / 65536 / 256)) ≡ x
+count-back x = omega arith
+
+numbers-written : (p : Program) (rest : List ℕ) → p ≡ numbersOf (headerBytes p ++ rest)
+unfolding headerBytes recordBytes numbersOf fieldOf
+numbers-written p rest = rw (field-back (p .registers), field-back (p .inputs), field-back (p .outputs), count-back (p .count))
+
+pub header-written : (p : Program) (rest : List ℕ) → within p ≡ true → headerOf (headerBytes p ++ rest) ≡ gives p
+unfolding headerBytes recordBytes fieldOf
+header-written p rest w =
+    sym (header-read (headerBytes p ++ rest) (omega arith) header-kind refl refl p (numbers-written p rest) w header-length refl refl)
+
+header-long : (p : Program) → length (headerBytes p) ≡ header-length
+unfolding headerBytes recordBytes
+header-long p = refl
+
+-- ---- the checker's tests
+every-true : (t : ℕ → Bool) (P : ℕ → Type 0) (xs : List ℕ) → ((x : ℕ) → P x → t x ≡ true) → Each P xs → every t xs ≡ true
+every-true t P [] f e = refl
+every-true t P (x ∷ xs) f e = rw (f x (e .0), every-true t P xs f (e .1))
+
+below : (n : ℕ) (xs : List ℕ) → Each (λ x. x < n) xs → every (λ x. ltb x n) xs ≡ true
+below n xs e = every-true (λ x. ltb x n) (λ x. x < n) xs (λ x l. lt-ltb x n l) e
+
+fits-range : (p : Program) (i : Instruction) → Fits p i → inRange p i ≡ true
+fits-range p i f =
+    rw (
+      below (p .registers) (uses i .writes) (f .0),
+      below (p .registers) (uses i .reads) (f .1),
+      below (p .inputs) (uses i .takes) (f .2),
+      below (p .outputs) (uses i .sets) (f .3),
+    )
+
+or-left : (a b : Bool) → a ≡ true → (a || b) ≡ true
+or-left true b e = refl
+or-left false b e = absurd (let z : _≡_ {A = ℕ} 0 1 = cc in omega arith)
+
+or-right : (a b : Bool) → b ≡ true → (a || b) ≡ true
+or-right true b e = refl
+or-right false b e = e
+
+also-old : (t : ℕ → Bool) (xs : List ℕ) (r : ℕ) → t r ≡ true → also t xs r ≡ true
+unfolding also
+also-old t [] r e = e
+also-old t (x ∷ xs) r e = or-right (eqb x r) (also t xs r) (also-old t xs r e)
+
+also-new : (t : ℕ → Bool) (xs : List ℕ) (r : ℕ) → OneOf xs r → also t xs r ≡ true
+unfolding also
+also-new t [] r e = absurd e
+also-new t (x ∷ xs) r (inl e) = or-left (eqb x r) (also t xs r) (eq-eqb x r (sym e))
+also-new t (x ∷ xs) r (inr e) = or-right (eqb x r) (also t xs r) (also-new t xs r e)
+
+also-either : (t : ℕ → Bool) (P : Type 0) (xs : List ℕ) (r : ℕ) → (P → t r ≡ true) → OneOf xs r ⊎ P → also t xs r ≡ true
+also-either t P xs r f (inl e) = also-new t xs r e
+also-either t P xs r f (inr e) = also-old t xs r (f e)
+
+code-step : (n : ℕ) (p : Program) (written set : ℕ → Bool) (bytes : List ℕ) (i : Instruction) (is : List Instruction) → decodeOf bytes ≡ gives i →
+    inRange p i ≡ true → every written (uses i .reads) ≡ true →
+    codeOf n p (also written (uses i .writes)) (also set (uses i .sets)) (drop (lengthOf i) bytes) ≡ gives is →
+    codeOf (suc n) p written set bytes ≡ gives (i ∷ is)
+unfolding codeOf instructionOf
+code-step n p written set bytes i is d r w c = rw (d, r, w, c)
+
+code-none : (p : Program) (written set : ℕ → Bool) → ((o : ℕ) → o < p .outputs → set o ≡ true) → codeOf 0 p written set [] ≡ gives []
+unfolding codeOf
+code-none p written set s = rw (any-all (p .outputs) (λ o. not (set o)) (λ o l. ap not (s o l)))
+
+-- the instructions, where those before them wrote and set what passes the tests
+code-accepted : (is : List Instruction) (p : Program) (W : ℕ → Type 0) (written set : ℕ → Bool) → ((r : ℕ) → W r → written r ≡ true) →
+    ((o : ℕ) → o < p .outputs → Sets o is ⊎ (set o ≡ true)) → Each (Fits p) is → Ready W is none →
+    codeOf (length is) p written set (codeBytes is) ≡ gives is
+unfolding codeBytes
+code-accepted [] p W written set w s f e =
+    code-none p written set (λ o l. ⊎-elim (λ (x : ⊥). absurd x) (λ (x : set o ≡ true). x) (s o l))
+code-accepted (i ∷ is) p W written set w s f e =
+    code-step (length is) p written set (instructionBytes i ++ codeBytes is) i is (decode-written i (codeBytes is)) (fits-range p i (f .0))
+    (every-true written W (uses i .reads) w (e .0))
+    (rw (drop-at (instructionBytes i) (codeBytes is) (lengthOf i) (length-instruction i))
+    (code-accepted is p (λ r. OneOf (uses i .writes) r ⊎ W r) (also written (uses i .writes)) (also set (uses i .sets))
+    (λ r x. also-either written (W r) (uses i .writes) r (w r) x) (λ o l. later o (s o l)) (f .1) (e .1)))
+  where
+    later : (o : ℕ) → (OneOf (uses i .sets) o ⊎ Sets o is) ⊎ (set o ≡ true) → Sets o is ⊎ (also set (uses i .sets) o ≡ true)
+    later o (inl (inl x)) = inr (also-new set (uses i .sets) o x)
+    later o (inl (inr x)) = inl x
+    later o (inr x) = inr (also-old set (uses i .sets) o x)
+
+-- a sound program is accepted, and the checker reads it as it is
+module _ (p : Program) (is : List Instruction) (s : Sound p is) where
+  behind-header : codeOf (p .count) p nothing nothing (drop header-length (headerBytes p ++ codeBytes is)) ≡ gives is
+  behind-header =
+      rw (drop-at (headerBytes p) (codeBytes is) header-length (header-long p))
+      (ap (λ (n : ℕ). codeOf n p nothing nothing (codeBytes is)) (s .counted) ∙
+      code-accepted is p none nothing nothing (λ r x. absurd x) (λ o l. inl (s .all-set o l)) (s .in-range) (s .written))
+
+  pub accepted : checkOf (programFile p is) ≡ gives (record { program = p; instructions = is })
+  unfolding checkOf programFile
+  accepted = rw (header-written p (codeBytes is) (s .limits), behind-header)

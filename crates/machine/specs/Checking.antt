@@ -1,0 +1,415 @@
+-- The turns of a check that marks what it has seen: what is left from here is answered as the whole is. Assumes nothing.
+use Prim.Native.Nat.{ℕ, zero, suc, _+_, _-_, _*_, _≤_, _<_}
+use mathlib.Core.Path.{_≡_, refl, sym, ap, _∙_, fun-ext}
+use mathlib.Core.Bool.{Bool, true, false, not, _&&_, _||_}
+use mathlib.Core.List.{List, [], _∷_}
+use mathlib.Core.Logic.{⊎-elim}
+use native.Mathlib.Decide.{ℕ-discrete}
+use native.Mathlib.Nat.{eq-or-lt-of-le}
+use native.Mathlib.Omega.{arith}
+use borrow.Author.Tests.{lt-ltb, le-ltb, ltb-true, eq-eqb, ne-eqb}
+use lib.Dec.{ltb, eqb}
+use lib.ListN.{length, getD, set, drop, length-drop, length-set, replicate, length-replicate}
+use lib.Seq.{drop-drop, getD-set-same, getD-set-other}
+use Rattle.laws.specs.Sums.{any}
+use Rattle.laws.specs.Outcome.{Outcome, refused, gives, refuse, _>>_, _>>=_, mapped}
+use Rattle.files.specs.Fields.{fieldOf}
+use Rattle.files.specs.Refusal.{numberOf}
+use Rattle.programs.specs.Limits.{most-registers, most-inputs, most-outputs, within, unwritten, unset}
+use Rattle.programs.specs.Instructions.{uses, lengthOf, ofKind, sizedOf, decodeOf, decodeAt}
+use Rattle.programs.specs.Header.{header-length, headerOf}
+use Rattle.programs.specs.Reading.{both, Within, within-means, decode-as}
+use Rattle.programs.specs.Inverse.{field-drop, length-some, decode-reads, HeaderReads, header-reads}
+use Rattle.programs.specs.declared.description.Program.{Program}
+use Rattle.programs.specs.declared.description.Instruction.{Instruction}
+use Rattle.programs.specs.declared.description.Instruction.the-variants.{Ones, Zero, Input, Not, And, Or, Output}
+use Rattle.machine.specs.Checks.{Code, every, also, inRange, instructionOf, codeOf, nothing, checkOf}
+use Rattle.machine.specs.Standing.{InRange, Stands, reads-stands}
+use Rattle.machine.specs.declared.checking.Admitted.{Admitted}
+use Rattle.machine.specs.declared.checking.Admitted.the-variants as Admitted
+
+-- what flags say
+unfoldable pub flagged : List Bool → ℕ → Bool
+flagged flags r = getD flags r false
+
+-- what is left of a check at a byte of a file: its refusal, or the header
+unfoldable pub restOf : List ℕ → Program → (ℕ → Bool) → (ℕ → Bool) → ℕ → ℕ → Outcome Program
+restOf file p written set n at = mapped (λ is. p) (codeOf n p written set (drop at file))
+
+-- ---- operands
+pub and-true : (b : Bool) → (b && true) ≡ b
+and-true true = refl
+and-true false = refl
+
+and-assoc : (a b c : Bool) → (a && b && c) ≡ (a && (b && c))
+and-assoc true b c = refl
+and-assoc false b c = refl
+
+-- the test of the operands as the code makes it
+module _ (p : Program) (i : Instruction) where
+  pub range-ones : (to : ℕ) → i ≡ Ones to → ltb to (p .registers) ≡ inRange p i
+  range-ones to e = rw e (sym (simp and-true))
+
+  pub range-zero : (to : ℕ) → i ≡ Zero to → ltb to (p .registers) ≡ inRange p i
+  range-zero to e = rw e (sym (simp and-true))
+
+  pub range-input : (to n : ℕ) → i ≡ Input to n → (ltb to (p .registers) && ltb n (p .inputs)) ≡ inRange p i
+  range-input to n e = rw e (sym (simp and-true))
+
+  pub range-not : (to a : ℕ) → i ≡ Not to a → (ltb to (p .registers) && ltb a (p .registers)) ≡ inRange p i
+  range-not to a e = rw e (sym (simp and-true))
+
+  pub range-and : (to a b : ℕ) → i ≡ And to a b → (ltb to (p .registers) && ltb a (p .registers) && ltb b (p .registers)) ≡ inRange p i
+  range-and to a b e = rw e (sym (simp (and-true, and-assoc)))
+
+  pub range-or : (to a b : ℕ) → i ≡ Or to a b → (ltb to (p .registers) && ltb a (p .registers) && ltb b (p .registers)) ≡ inRange p i
+  range-or to a b e = rw e (sym (simp (and-true, and-assoc)))
+
+  pub range-output : (o a : ℕ) → i ≡ Output o a → (ltb a (p .registers) && ltb o (p .outputs)) ≡ inRange p i
+  range-output o a e = rw e (sym (simp and-true))
+
+-- and in plain facts
+pub range-means : (p : Program) (i : Instruction) → inRange p i ≡ true → InRange (p .registers) (p .inputs) (p .outputs) i
+range-means p (Ones to) e = ltb-true to (p .registers) (simp and-true at e)
+range-means p (Zero to) e = ltb-true to (p .registers) (simp and-true at e)
+range-means p (Input to n) e =
+    let s = both (ltb to (p .registers)) (ltb n (p .inputs)) (simp and-true at e) in
+    (ltb-true to (p .registers) (s .0), ltb-true n (p .inputs) (s .1))
+range-means p (Not to a) e =
+    let s = both (ltb to (p .registers)) (ltb a (p .registers)) (simp and-true at e) in
+    (ltb-true to (p .registers) (s .0), ltb-true a (p .registers) (s .1))
+range-means p (And to a b) e =
+    let s = both (ltb to (p .registers)) (ltb a (p .registers) && ltb b (p .registers)) (simp and-true at e) in
+    let q = both (ltb a (p .registers)) (ltb b (p .registers)) (s .1) in
+    (ltb-true to (p .registers) (s .0), ltb-true a (p .registers) (q .0), ltb-true b (p .registers) (q .1))
+range-means p (Or to a b) e =
+    let s = both (ltb to (p .registers)) (ltb a (p .registers) && ltb b (p .registers)) (simp and-true at e) in
+    let q = both (ltb a (p .registers)) (ltb b (p .registers)) (s .1) in
+    (ltb-true to (p .registers) (s .0), ltb-true a (p .registers) (q .0), ltb-true b (p .registers) (q .1))
+range-means p (Output o a) e =
+    let s = both (ltb a (p .registers)) (ltb o (p .outputs)) (simp and-true at e) in
+    (ltb-true o (p .outputs) (s .1), ltb-true a (p .registers) (s .0))
+
+pub range-wider : (nr ni nq mr mi mq : ℕ) (i : Instruction) → nr ≤ mr → ni ≤ mi → nq ≤ mq → InRange nr ni nq i → InRange mr mi mq i
+range-wider nr ni nq mr mi mq (Ones to) a b c r = omega arith
+range-wider nr ni nq mr mi mq (Zero to) a b c r = omega arith
+range-wider nr ni nq mr mi mq (Input to n) a b c r = (omega (arith, r .0), omega (arith, r .1))
+range-wider nr ni nq mr mi mq (Not to x) a b c r = (omega (arith, r .0), omega (arith, r .1))
+range-wider nr ni nq mr mi mq (And to x y) a b c r = (omega (arith, r .0), omega (arith, r .1), omega (arith, r .2))
+range-wider nr ni nq mr mi mq (Or to x y) a b c r = (omega (arith, r .0), omega (arith, r .1), omega (arith, r .2))
+range-wider nr ni nq mr mi mq (Output o x) a b c r = (omega (arith, r .0), omega (arith, r .1))
+
+range-limits : (p : Program) (i : Instruction) → within p ≡ true → inRange p i ≡ true → InRange most-registers most-inputs most-outputs i
+range-limits p i w e =
+    let l = within-means p w in
+    range-wider _ _ _ _ _ _ i (l .few-registers) (l .few-inputs) (l .few-outputs) (range-means p i e)
+
+-- ---- marks
+pub record Marks (i : Instruction) (w s w′ s′ : List Bool) : Type 0 where
+  pub written : flagged w′ ≡ also (flagged w) (uses i .writes)
+  pub outputs : flagged s′ ≡ also (flagged s) (uses i .sets)
+  pub long : length w′ ≡ length w
+  pub wide : length s′ ≡ length s
+
+flag-set : (w : List Bool) (to : ℕ) → to < length w → flagged (set w to true) ≡ also (flagged w) (to ∷ [])
+unfolding flagged also
+flag-set w to h = fun-ext (λ r. by r (ℕ-discrete r to))
+  where
+    by : (r : ℕ) → Dec (r ≡ to) → getD (set w to true) r false ≡ (eqb to r || getD w r false)
+    by r (yes e) = rw (e, getD-set-same w to true false h, eq-eqb to to refl)
+    by r (no n) = rw (getD-set-other w to r true false n, ne-eqb to r (λ e. n (sym e)))
+
+also-none : (t : ℕ → Bool) → t ≡ also t []
+unfolding also
+also-none t = fun-ext (λ r. refl)
+
+module _ (w s : List Bool) (to : ℕ) where
+  marks-register : (i : Instruction) → uses i .writes ≡ to ∷ [] → uses i .sets ≡ [] → to < length w → Marks i w s (set w to true) s
+  marks-register i e q h =
+      record { written = rw e (flag-set w to h); outputs = rw q (also-none (flagged s)); long = length-set w to true; wide = refl }
+
+  -- what marking each instruction does
+  pub mark-ones : to < length w → Marks (Ones to) w s (set w to true) s
+  mark-ones = marks-register (Ones to) refl refl
+
+  pub mark-zero : to < length w → Marks (Zero to) w s (set w to true) s
+  mark-zero = marks-register (Zero to) refl refl
+
+  pub mark-input : (n : ℕ) → to < length w → Marks (Input to n) w s (set w to true) s
+  mark-input n = marks-register (Input to n) refl refl
+
+  pub mark-not : (a : ℕ) → to < length w → Marks (Not to a) w s (set w to true) s
+  mark-not a = marks-register (Not to a) refl refl
+
+  pub mark-and : (a b : ℕ) → to < length w → Marks (And to a b) w s (set w to true) s
+  mark-and a b = marks-register (And to a b) refl refl
+
+  pub mark-or : (a b : ℕ) → to < length w → Marks (Or to a b) w s (set w to true) s
+  mark-or a b = marks-register (Or to a b) refl refl
+
+  pub mark-output : (a : ℕ) → to < length s → Marks (Output to a) w s w (set s to true)
+  mark-output a h = record { written = also-none (flagged w); outputs = flag-set s to h; long = refl; wide = length-set s to true }
+
+-- ---- one instruction
+pub record Admit (file : List ℕ) (at : ℕ) (p : Program) (w s : List Bool) (next : ℕ) (w′ s′ : List Bool) : Type 0 where
+  pub i : Instruction
+  pub reads : instructionOf p (flagged w) (drop at file) ≡ gives i
+  pub ahead : next ≡ at + lengthOf i
+  pub inside : next ≤ length file
+  pub marks : Marks i w s w′ s′
+
+abbrev pub Admits : Admitted → List ℕ → ℕ → Program → List Bool → List Bool → List Bool → List Bool → Type 0
+Admits (Admitted.Refused why) file at p w s w′ s′ = instructionOf p (flagged w) (drop at file) ≡ refused (numberOf why)
+Admits (Admitted.Next next) file at p w s w′ s′ = Admit file at p w s next w′ s′
+
+module _ (file : List ℕ) (at : ℕ) (p : Program) (written : ℕ → Bool) where
+  pub admit-refused : (k : ℕ) → refused k ≡ decodeAt file at → instructionOf p written (drop at file) ≡ refused k
+  unfolding instructionOf decodeAt
+  admit-refused k e = rw (sym e)
+
+  module _ (i : Instruction) (e : gives i ≡ decodeAt file at) where
+    pub admit-operand : inRange p i ≡ false → instructionOf p written (drop at file) ≡ refused 8
+    unfolding instructionOf decodeAt
+    admit-operand r = rw (sym e, r)
+
+    pub admit-unwritten : inRange p i ≡ true → every written (uses i .reads) ≡ false → instructionOf p written (drop at file) ≡ refused 9
+    unfolding instructionOf decodeAt
+    admit-unwritten r w = rw (sym e, r, w)
+
+    pub admit-gives : inRange p i ≡ true → every written (uses i .reads) ≡ true → instructionOf p written (drop at file) ≡ gives i
+    unfolding instructionOf decodeAt
+    admit-gives r w = rw (sym e, r, w)
+
+module _ (file : List ℕ) (at : ℕ) (i : Instruction) (e : gives i ≡ decodeAt file at) where
+  pub admit-room : at + lengthOf i ≤ length file
+  unfolding decodeAt
+  admit-room = reads-stands file at i (sym e) .room
+
+  pub admit-limits : (p : Program) → within p ≡ true → inRange p i ≡ true → InRange most-registers most-inputs most-outputs i
+  admit-limits p = range-limits p i
+
+  pub admit-next : (p : Program) (w s : List Bool) → inRange p i ≡ true → every (flagged w) (uses i .reads) ≡ true → (len : ℕ) → len ≡ lengthOf i →
+      (w′ s′ : List Bool) → Marks i w s w′ s′ → Admit file at p w s (at + len) w′ s′
+  admit-next p w s r f len l w′ s′ m =
+      record { i = i; reads = admit-gives file at p (flagged w) i e r f; ahead = rw l; inside = rw l admit-room; marks = m }
+
+-- ---- what is left of a check
+mapped-const : {A B C : Type 0} (c : C) (f : A → B) (o : Outcome A) → mapped (λ b. c) (o >>= λ a. gives (f a)) ≡ mapped (λ a. c) o
+mapped-const c f (refused k) = refl
+mapped-const c f (gives a) = refl
+
+module _ (file : List ℕ) (p : Program) (written set : ℕ → Bool) (n at : ℕ) where
+  rest-more : (i : Instruction) → instructionOf p written (drop at file) ≡ gives i →
+      restOf file p written set (suc n) at ≡ restOf file p (also written (uses i .writes)) (also set (uses i .sets)) n (at + lengthOf i)
+  unfolding restOf codeOf
+  rest-more i e =
+      rw (
+        e,
+        mapped-const p (λ (is : List Instruction). i ∷ is) (codeOf n p (also written (uses i .writes)) (also set (uses i .sets)) (drop (lengthOf i) (drop at file))),
+        drop-drop (lengthOf i) at file,
+      )
+
+  rest-refused : (k : ℕ) → instructionOf p written (drop at file) ≡ refused k → restOf file p written set (suc n) at ≡ refused k
+  unfolding restOf codeOf
+  rest-refused k e = rw e
+
+module _ (file : List ℕ) (p : Program) (written set : ℕ → Bool) (at : ℕ) where
+  rest-left : at < length file → restOf file p written set 0 at ≡ refused 4
+  unfolding restOf codeOf
+  rest-left h = rw (length-drop at file, lt-ltb 0 (length file - at) (omega arith))
+
+  rest-unset : length file ≤ at → any (p .outputs) (λ o. not (set o)) ≡ true → restOf file p written set 0 at ≡ refused 10
+  unfolding restOf codeOf
+  rest-unset h e = rw (length-drop at file, le-ltb 0 (length file - at) (omega arith), e)
+
+  rest-done : length file ≤ at → any (p .outputs) (λ o. not (set o)) ≡ false → restOf file p written set 0 at ≡ gives p
+  unfolding restOf codeOf
+  rest-done h e = rw (length-drop at file, le-ltb 0 (length file - at) (omega arith), e)
+
+-- ---- runs of gates
+-- the operands of an AND or an OR that no refusal is due for
+pub record SoundGate (file : List ℕ) (at registers : ℕ) (w : List Bool) : Type 0 where
+  pub into : fieldOf file (at + 4) < registers
+  pub left : fieldOf file (at + 6) < registers
+  pub right : fieldOf file (at + 8) < registers
+  pub left-written : flagged w (fieldOf file (at + 6)) ≡ true
+  pub right-written : flagged w (fieldOf file (at + 8)) ≡ true
+
+pub sound : (file : List ℕ) (at registers to a b : ℕ) (w : List Bool) → to ≡ fieldOf file (at + 4) → a ≡ fieldOf file (at + 6) →
+    b ≡ fieldOf file (at + 8) → to < registers → a < registers → b < registers → (getD w a false && getD w b false) ≡ true →
+    SoundGate file at registers w
+unfolding flagged
+sound file at registers to a b w e q r l m n f =
+    let s = both (getD w a false) (getD w b false) f in
+    record {
+      into = omega arith;
+      left = omega arith;
+      right = omega arith;
+      left-written = rw (← q) (s .0);
+      right-written = rw (← r) (s .1);
+    }
+
+-- length and kind as one number
+pub head-parts : (file : List ℕ) (at kind x : ℕ) → x ≡ fieldOf file at + 65536 * fieldOf file (at + 2) → fieldOf file at < 65536 → x ≡ 10 + 65536 * kind →
+    (fieldOf file at ≡ 10) × (fieldOf file (at + 2) ≡ kind)
+head-parts file at kind x e l q = (omega arith, omega arith)
+
+-- passing instructions that write registers and set no output, for every program with so many registers
+pub record Passes (file : List ℕ) (registers n₀ from : ℕ) (w₀ : List Bool) (n at : ℕ) (w : List Bool) : Type 0 where
+  pub same : (p : Program) → p .registers ≡ registers → (set : ℕ → Bool) → restOf file p (flagged w) set n at ≡ restOf file p (flagged w₀) set n₀ from
+  pub less : n ≤ n₀
+  pub inside : at ≤ length file
+  pub long : length w ≡ length w₀
+
+module _ (file : List ℕ) (at : ℕ) (i : Instruction) (room : at + lengthOf i ≤ length file) (long : fieldOf file at ≡ lengthOf i) where
+  -- an instruction by its fields
+  decodes : ofKind (fieldOf file (at + 2)) (fieldOf file (at + 4)) (fieldOf file (at + 6)) (fieldOf file (at + 8)) ≡ gives i → gives i ≡ decodeAt file at
+  unfolding decodeAt sizedOf
+  decodes e =
+      let z : at + 0 ≡ at = omega arith in
+      decode-as (drop at file) (lengthOf i) (rw (field-drop at file 0, z) (sym long)) (omega (arith, length-drop at file, length-some i))
+      (omega (arith, length-drop at file)) (fieldOf file (at + 2)) (fieldOf file (at + 4)) (fieldOf file (at + 6)) (fieldOf file (at + 8))
+      (sym (field-drop at file 4)) (sym (field-drop at file 6)) (sym (field-drop at file 8)) (sym (field-drop at file 2)) i (gives i) e
+      (rw (eq-eqb (lengthOf i) (lengthOf i) refl))
+
+module _ (file : List ℕ) (registers n₀ from : ℕ) (w₀ : List Bool) where
+  pub passes-none : (n : ℕ) → n ≡ n₀ → from ≤ length file → Passes file registers n₀ from w₀ n from w₀
+  passes-none n e h = record { same = λ p q set. rw e; less = omega arith; inside = h; long = refl }
+
+  module _ (n at : ℕ) (w : List Bool) (g : Passes file registers n₀ from w₀ n at w) (m : ℕ) (q : n ≡ suc m) where
+    passes-suc : (i : Instruction) (w′ : List Bool) →
+        ((p : Program) → p .registers ≡ registers → instructionOf p (flagged w) (drop at file) ≡ gives i) → uses i .sets ≡ [] →
+        flagged w′ ≡ also (flagged w) (uses i .writes) → length w′ ≡ length w → at + lengthOf i ≤ length file →
+        Passes file registers n₀ from w₀ m (at + lengthOf i) w′
+    passes-suc i w′ e s f l h =
+        record {
+          same = λ p r set. (plain p set ∙ (sym (rest-more file p (flagged w) set m at i (e p r)) ∙ rw q at (g .same p r set)));
+          less = omega (arith, g .less);
+          inside = h;
+          long = l ∙ g .long;
+        }
+      where
+        plain : (p : Program) (set : ℕ → Bool) → restOf file p (flagged w′) set m (at + lengthOf i) ≡
+            restOf file p (also (flagged w) (uses i .writes)) (also set (uses i .sets)) m (at + lengthOf i)
+        plain p set = rw (f, s, ← also-none set)
+
+    module _ (room : at + 10 ≤ length file) (long : length w₀ ≡ most-registers) (few : registers ≤ most-registers) (len : fieldOf file at ≡ 10)
+        (s : SoundGate file at registers w) (to : ℕ) (is-to : to ≡ fieldOf file (at + 4)) where
+      gate : (i : Instruction) → lengthOf i ≡ 10 → uses i .sets ≡ [] → uses i .writes ≡ fieldOf file (at + 4) ∷ [] →
+          uses i .reads ≡ fieldOf file (at + 6) ∷ fieldOf file (at + 8) ∷ [] → ((p : Program) → p .registers ≡ registers → inRange p i ≡ true) →
+          ofKind (fieldOf file (at + 2)) (fieldOf file (at + 4)) (fieldOf file (at + 6)) (fieldOf file (at + 8)) ≡ gives i →
+          Passes file registers n₀ from w₀ m (at + 10) (set w to true)
+      gate i ten none one two range named =
+          let e : gives i ≡ decodeAt file at = decodes file at i (omega arith) (len ∙ sym ten) named in
+          let read : every (flagged w) (uses i .reads) ≡ true = rw (two, s .left-written, s .right-written) in
+          let into : to < length w = omega (arith, s .into, g .long) in
+          rw ten at
+          (passes-suc i (set w to true) (λ p r. admit-gives file at p (flagged w) i e (range p r) read) none
+          (rw (one, ← is-to) (flag-set w to into)) (length-set w to true) (omega arith))
+
+      tests : (ltb (fieldOf file (at + 4)) registers ≡ true) × (ltb (fieldOf file (at + 6)) registers ≡ true) × (ltb (fieldOf file (at + 8)) registers ≡ true)
+      tests = (lt-ltb _ _ (s .into), lt-ltb _ _ (s .left), lt-ltb _ _ (s .right))
+
+      pub passes-gate : (kind : ℕ) → 5 ≤ kind → kind ≤ 6 → fieldOf file (at + 2) ≡ kind → Passes file registers n₀ from w₀ m (at + 10) (set w to true)
+      passes-gate kind a b k =
+          ⊎-elim
+          (λ (e : 5 ≡ kind).
+          gate (And (fieldOf file (at + 4)) (fieldOf file (at + 6)) (fieldOf file (at + 8))) refl refl refl refl
+          (λ p r. rw (r, tests .0, tests .1, tests .2)) (rw (k ∙ sym e)))
+          (λ (e : 5 < kind).
+          let six : kind ≡ 6 = omega arith in
+          gate (Or (fieldOf file (at + 4)) (fieldOf file (at + 6)) (fieldOf file (at + 8))) refl refl refl refl
+          (λ p r. rw (r, tests .0, tests .1, tests .2)) (rw (k ∙ six)))
+          (eq-or-lt-of-le a)
+
+-- ---- the whole body
+pub record Checking (file : List ℕ) (p : Program) (n at : ℕ) (w s : List Bool) : Type 0 where
+  pub same : restOf file p (flagged w) (flagged s) n at ≡ restOf file p nothing nothing (p .count) header-length
+  pub inside : at ≤ length file
+  pub long : length w ≡ most-registers
+  pub wide : length s ≡ most-outputs
+
+fresh-flags : (n : ℕ) → flagged (replicate n false) ≡ nothing
+unfolding flagged
+fresh-flags n = fun-ext (λ r. by n r)
+  where
+    by : (n r : ℕ) → getD (replicate n false) r false ≡ false
+    by zero r = refl
+    by (suc n) zero = refl
+    by (suc n) (suc r) = by n r
+
+module _ (file : List ℕ) (p : Program) where
+  pub checking-none : (n : ℕ) (w s : List Bool) → n ≡ p .count → header-length ≤ length file → w ≡ unwritten → s ≡ unset →
+      Checking file p n header-length w s
+  unfolding unwritten unset
+  checking-none n w s q h e f =
+      record {
+        same = rw (q, e, f, fresh-flags most-registers, fresh-flags most-outputs);
+        inside = h;
+        long = rw e (length-replicate most-registers false);
+        wide = rw f (length-replicate most-outputs false);
+      }
+
+  module _ (n at : ℕ) (w s : List Bool) (g : Checking file p n at w s) where
+    checking-suc : (m : ℕ) → n ≡ suc m → (next : ℕ) (w′ s′ : List Bool) → Admit file at p w s next w′ s′ → Checking file p m next w′ s′
+    checking-suc m q next w′ s′ a =
+        record {
+          same = rw (a .ahead, a .marks .written, a .marks .outputs)
+              (sym (rest-more file p (flagged w) (flagged s) m at (a .i) (a .reads)) ∙ rw q at (g .same));
+          inside = a .inside;
+          long = a .marks .long ∙ g .long;
+          wide = a .marks .wide ∙ g .wide;
+        }
+
+    pub checking-admit : 0 < n → (next : ℕ) (w′ s′ : List Bool) → Admit file at p w s next w′ s′ → Checking file p (n - 1) next w′ s′
+    checking-admit l next w′ s′ a = checking-suc (n - 1) (omega arith) next w′ s′ a
+
+    pub checking-passes : (n′ at′ : ℕ) (w′ : List Bool) → Passes file (p .registers) n at w n′ at′ w′ → Checking file p n′ at′ w′ s
+    checking-passes n′ at′ w′ a =
+        record { same = a .same p refl (flagged s) ∙ g .same; inside = a .inside; long = a .long ∙ g .long; wide = g .wide }
+
+    pub checking-refused : 0 < n → (k : ℕ) → instructionOf p (flagged w) (drop at file) ≡ refused k →
+        refused k ≡ restOf file p nothing nothing (p .count) header-length
+    checking-refused l k e =
+        let q : n ≡ suc (n - 1) = omega arith in
+        sym (rest-refused file p (flagged w) (flagged s) (n - 1) at k e) ∙ rw q at (g .same)
+
+    module _ (z : n ≤ 0) where
+      at-end : restOf file p (flagged w) (flagged s) 0 at ≡ restOf file p nothing nothing (p .count) header-length
+      at-end =
+          let q : n ≡ 0 = omega arith in
+          rw q at (g .same)
+
+      pub checking-left : at < length file → refused 4 ≡ restOf file p nothing nothing (p .count) header-length
+      checking-left h = sym (rest-left file p (flagged w) (flagged s) at h) ∙ at-end
+
+      pub checking-unset : length file ≤ at → any (p .outputs) (λ o. not (flagged s o)) ≡ true →
+          refused 10 ≡ restOf file p nothing nothing (p .count) header-length
+      checking-unset h e = sym (rest-unset file p (flagged w) (flagged s) at h e) ∙ at-end
+
+      pub checking-done : length file ≤ at → any (p .outputs) (λ o. not (flagged s o)) ≡ false →
+          gives p ≡ restOf file p nothing nothing (p .count) header-length
+      checking-done h e = sym (rest-done file p (flagged w) (flagged s) at h e) ∙ at-end
+
+-- ---- header, then body
+mapped-same : {A B C : Type 0} (c : C) (g : B → C) (f : A → B) → ((a : A) → g (f a) ≡ c) → (o : Outcome A) →
+    mapped (λ a. c) o ≡ mapped g (o >>= λ a. gives (f a))
+mapped-same c g f e (refused k) = refl
+mapped-same c g f e (gives a) = ap gives (sym (e a))
+
+module _ (file : List ℕ) where
+  pub check-refused : (k : ℕ) → refused k ≡ headerOf file → refused k ≡ mapped (λ c. c .program) (checkOf file)
+  unfolding checkOf
+  check-refused k e = rw (← e)
+
+  module _ (p : Program) (e : gives p ≡ headerOf file) where
+    pub check-ready : (within p ≡ true) × (header-length ≤ length file)
+    check-ready =
+        let r = header-reads file p (sym e) in
+        (r .inside, r .room)
+
+    pub check-body : (o : Outcome Program) → o ≡ restOf file p nothing nothing (p .count) header-length → o ≡ mapped (λ c. c .program) (checkOf file)
+    unfolding checkOf restOf
+    check-body o q =
+        q ∙ (mapped-same p (λ (c : Code). c .program) (λ (is : List Instruction). record { program = p; instructions = is }) (λ is. refl)
+        (codeOf (p .count) p nothing nothing (drop header-length file)) ∙ rw (← e))

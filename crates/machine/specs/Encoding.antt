@@ -1,0 +1,444 @@
+-- An accepted program file is the encoding of its header and instructions, and what acceptance means in plain words. Assumes nothing.
+use Prim.Native.Nat.{ℕ, zero, suc, _+_, _*_, _/_, _%_, _≤_, _<_}
+use mathlib.Core.Path.{_≡_, refl, sym, ap, _∙_, subst}
+use mathlib.Core.Bool.{Bool, true, false, not, cond, _||_}
+use mathlib.Core.List.{List, [], _∷_, _++_}
+use mathlib.Core.Logic.{_⊎_, inl, inr, ⊎-elim, _↔_}
+use native.Mathlib.Numerals.{add-one}
+use native.Mathlib.Omega.{arith}
+use borrow.Author.Tests.{ltb-true, ltb-false, eqb-true, not-false, le-leb}
+use lib.Dec.{eqb, ltb}
+use lib.ListN.{length, getD, take, drop}
+use lib.Seq.{drop-cons, getD-drop}
+use Rattle.laws.specs.Sums.{any, any-false}
+use Rattle.laws.specs.Outcome.{Outcome, gives, passed, bound, gives-inj}
+use Rattle.files.specs.Fields.{fieldOf}
+use Rattle.programs.specs.Limits.{most-registers, most-inputs, most-outputs, most-instructions, within}
+use Rattle.programs.specs.Records.{recordBytes}
+use Rattle.programs.specs.Instructions.{uses, kindOf, lengthOf, operandsOf, ofKind, instructionBytes, decodeOf}
+use Rattle.programs.specs.Header.{header-length, header-kind, headerBytes, headerOf, numbersOf, codeBytes, programFile}
+use Rattle.programs.specs.Reading.{both, Within, within-means}
+use Rattle.programs.specs.Inverse.{decode-reads, named-kind}
+use Rattle.programs.specs.declared.description.Program.{Program}
+use Rattle.programs.specs.declared.description.Instruction.{Instruction}
+use Rattle.programs.specs.declared.description.Instruction.the-variants.{Ones, Zero, Input, Not, And, Or, Output}
+use Rattle.machine.specs.Checks.{Code, every, also, inRange, instructionOf, codeOf, nothing, checkOf}
+use Rattle.machine.specs.Accepting.{Each, OneOf, Fits, Ready, Sets, none, Sound, accepted}
+
+-- ---- what acceptance means in plain words
+-- instruction i stands at position k
+abbrev pub At : List Instruction → ℕ → Instruction → Type 0
+At [] k i = ⊥
+At (x ∷ xs) zero i = x ≡ i
+At (x ∷ xs) (suc k) i = At xs k i
+
+-- an instruction before position k writes register r
+abbrev pub Earlier : List Instruction → ℕ → ℕ → Type 0
+Earlier is k r = (j : ℕ) × (e : Instruction) × (j < k) × At is j e × OneOf (uses e .writes) r
+
+-- the instruction at position k reads register r
+abbrev pub Read : List Instruction → ℕ → ℕ → Type 0
+Read is k r = (i : Instruction) × At is k i × OneOf (uses i .reads) r
+
+-- an instruction sets output o
+abbrev pub SetBy : List Instruction → ℕ → Type 0
+SetBy is o = (k : ℕ) × (i : Instruction) × At is k i × OneOf (uses i .sets) o
+
+pub record WellFormed (p : Program) (is : List Instruction) : Type 0 where
+  -- registers 1 to 1,024, inputs 1 to 128, outputs 1 to 8, at most 131,072 instructions
+  pub limits : Within p
+  pub counted : p .count ≡ length is
+  -- each operand is below its count
+  pub in-range : (k : ℕ) (i : Instruction) → At is k i → Fits p i
+  -- each register that an instruction reads was written by an earlier one
+  pub written : (k r : ℕ) → Read is k r → Earlier is k r
+  -- each output is set by some instruction
+  pub all-set : (o : ℕ) → o < p .outputs → SetBy is o
+
+-- ---- bytes are written back as they are read
+-- n fields from byte k on
+abbrev fieldsOf : ℕ → ℕ → List ℕ → List ℕ
+fieldsOf zero k bytes = []
+fieldsOf (suc n) k bytes = fieldOf bytes k ∷ fieldsOf n (k + 2) bytes
+
+low-back : (x y : ℕ) → x < 256 → (x + 256 * y) % 256 ≡ x
+low-back x y h = omega arith
+
+high-back : (x y : ℕ) → x < 256 → (x + 256 * y) / 256 ≡ y
+high-back x y h = omega arith
+
+field-small : (bytes : List ℕ) (k : ℕ) → getD bytes k 0 < 256 → getD bytes (k + 1) 0 < 256 → fieldOf bytes k < 65536
+unfolding fieldOf
+field-small bytes k a b = omega arith
+
+two-ahead : (bytes : List ℕ) (k : ℕ) → k + 2 ≤ length bytes → drop k bytes ≡ getD bytes k 0 ∷ getD bytes (k + 1) 0 ∷ drop (k + 2) bytes
+two-ahead bytes k h =
+    let next : k + 2 ≡ suc (k + 1) = omega arith in
+    drop-cons bytes k 0 (omega arith) ∙
+    ap (λ (l : List ℕ). getD bytes k 0 ∷ l) (rw (← add-one k, next) (drop-cons bytes (k + 1) 0 (omega arith)))
+
+module _ (bytes : List ℕ) (byte : (i : ℕ) → getD bytes i 0 < 256) where
+  record-back : (n k : ℕ) → k + 2 * n ≤ length bytes → drop k bytes ≡ recordBytes (fieldsOf n k bytes) ++ drop (k + 2 * n) bytes
+  unfolding recordBytes fieldOf
+  record-back zero k h =
+      let at : k ≡ k + 2 * 0 = omega arith in
+      ap (λ (j : ℕ). drop j bytes) at
+  record-back (suc n) k h =
+      let at : k + 2 * suc n ≡ (k + 2) + 2 * n = omega arith in
+      rw (low-back (getD bytes k 0) (getD bytes (k + 1) 0) (byte k), high-back (getD bytes k 0) (getD bytes (k + 1) 0) (byte k), at)
+      (two-ahead bytes k (omega arith) ∙ ap (λ (l : List ℕ). getD bytes k 0 ∷ getD bytes (k + 1) 0 ∷ l) (record-back n (k + 2) (omega arith)))
+
+-- ---- the table of instructions read both ways
+either-test : {P : Type 0} (b : Bool) (i j : Instruction) (o : Outcome Instruction) → (j ≡ i → P) → (o ≡ gives i → P) →
+    cond b (gives j) o ≡ gives i → P
+either-test true i j o same other e = same (gives-inj e)
+either-test false i j o same other e = other e
+
+operands-named : (k a b d : ℕ) (i : Instruction) → ofKind k a b d ≡ gives i → operandsOf i ≡ take (length (operandsOf i)) (a ∷ b ∷ d ∷ [])
+operands-named k a b d i =
+    either-test (eqb k 1) i (Ones a) _ (λ q. rw (← q))
+    (either-test (eqb k 2) i (Zero a) _ (λ q. rw (← q))
+    (either-test (eqb k 3) i (Input a b) _ (λ q. rw (← q))
+    (either-test (eqb k 4) i (Not a b) _ (λ q. rw (← q))
+    (either-test (eqb k 5) i (And a b d) _ (λ q. rw (← q))
+    (either-test (eqb k 6) i (Or a b d) _ (λ q. rw (← q))
+    (either-test (eqb k 7) i (Output a b) _ (λ q. rw (← q))
+    (λ e. absurd (let z : _≡_ {A = ℕ} 0 1 = cc in omega arith))))))))
+
+-- the fields of an instruction that is read
+fields-named : (bytes : List ℕ) (i : Instruction) → fieldOf bytes 0 ≡ lengthOf i → fieldOf bytes 2 ≡ kindOf i →
+    operandsOf i ≡ take (length (operandsOf i)) (fieldOf bytes 4 ∷ fieldOf bytes 6 ∷ fieldOf bytes 8 ∷ []) →
+    fieldsOf (2 + length (operandsOf i)) 0 bytes ≡ lengthOf i ∷ kindOf i ∷ operandsOf i
+fields-named bytes (Ones to) l k o = rw (l, k, o)
+fields-named bytes (Zero to) l k o = rw (l, k, o)
+fields-named bytes (Input to n) l k o = rw (l, k, o)
+fields-named bytes (Not to a) l k o = rw (l, k, o)
+fields-named bytes (And to a b) l k o = rw (l, k, o)
+fields-named bytes (Or to a b) l k o = rw (l, k, o)
+fields-named bytes (Output to a) l k o = rw (l, k, o)
+
+length-fields : (i : Instruction) → lengthOf i ≡ 2 * (2 + length (operandsOf i))
+length-fields (Ones to) = refl
+length-fields (Zero to) = refl
+length-fields (Input to n) = refl
+length-fields (Not to a) = refl
+length-fields (And to a b) = refl
+length-fields (Or to a b) = refl
+length-fields (Output o a) = refl
+
+pub instruction-back : (bytes : List ℕ) (i : Instruction) → ((k : ℕ) → getD bytes k 0 < 256) → decodeOf bytes ≡ gives i →
+    bytes ≡ instructionBytes i ++ drop (lengthOf i) bytes
+unfolding instructionBytes
+instruction-back bytes i byte e =
+    let r = decode-reads bytes i e in
+    let n : ℕ = 2 + length (operandsOf i) in
+    let fields : fieldsOf n 0 bytes ≡ lengthOf i ∷ kindOf i ∷ operandsOf i =
+    fields-named bytes i (r .long) (named-kind (fieldOf bytes 2) (fieldOf bytes 4) (fieldOf bytes 6) (fieldOf bytes 8) i (r .named))
+    (operands-named (fieldOf bytes 2) (fieldOf bytes 4) (fieldOf bytes 6) (fieldOf bytes 8) i (r .named)) in
+    let at : 0 + 2 * n ≡ lengthOf i = omega (arith, length-fields i) in
+    rw (fields, at) at (record-back bytes byte n 0 (omega (arith, r .room)))
+
+-- ---- what the checks before a result say
+pub record Headed (file : List ℕ) (p : Program) : Type 0 where
+  pub room : header-length ≤ length file
+  pub kind : fieldOf file 2 ≡ header-kind
+  pub long : fieldOf file 0 ≡ header-length
+  pub numbers : p ≡ numbersOf file
+  pub limits : within p ≡ true
+
+pub header-says : (file : List ℕ) (p : Program) → headerOf file ≡ gives p → Headed file p
+unfolding headerOf
+header-says file p e =
+    let c1 = passed 1 (ltb (length file) header-length) _ p e in
+    let c2 = passed 2 (not (eqb (fieldOf file 2) header-kind)) _ p (c1 .1) in
+    let c3 = passed 3 (not (within (numbersOf file))) _ p (c2 .1) in
+    let c4 = passed 4 (not (eqb (fieldOf file 0) header-length)) _ p (c3 .1) in
+    let same : numbersOf file ≡ p = gives-inj (c4 .1) in
+    record {
+      room = ltb-false (length file) header-length (c1 .0);
+      kind = eqb-true (fieldOf file 2) header-kind (not-false _ (c2 .0));
+      long = eqb-true (fieldOf file 0) header-length (not-false _ (c4 .0));
+      numbers = sym same;
+      limits = rw same at (not-false (within (numbersOf file)) (c3 .0));
+    }
+
+pub header-back : (file : List ℕ) (p : Program) → ((k : ℕ) → getD file k 0 < 256) → headerOf file ≡ gives p →
+    file ≡ headerBytes p ++ drop header-length file
+unfolding headerBytes numbersOf
+header-back file p byte e =
+    let h = header-says file p e in
+    rw (h .numbers, count-low, count-high, ← h .kind, ← h .long) (record-back file byte 7 0 (h .room))
+  where
+    small : fieldOf file 10 < 65536
+    small = field-small file 10 (byte 10) (byte 11)
+
+    count-low : (fieldOf file 10 + 65536 * fieldOf file 12) % 65536 ≡ fieldOf file 10
+    count-low = omega (arith, small)
+
+    count-high : (fieldOf file 10 + 65536 * fieldOf file 12) / 65536 ≡ fieldOf file 12
+    count-high = omega (arith, small)
+
+-- one instruction and those behind it
+pub record Coded (n : ℕ) (p : Program) (written set : ℕ → Bool) (bytes : List ℕ) (is : List Instruction) : Type 0 where
+  pub first : Instruction
+  pub rest : List Instruction
+  pub whole : is ≡ first ∷ rest
+  pub read : decodeOf bytes ≡ gives first
+  pub in-range : inRange p first ≡ true
+  pub known : every written (uses first .reads) ≡ true
+  pub behind : codeOf n p (also written (uses first .writes)) (also set (uses first .sets)) (drop (lengthOf first) bytes) ≡ gives rest
+
+pub code-says : (n : ℕ) (p : Program) (written set : ℕ → Bool) (bytes : List ℕ) (is : List Instruction) →
+    codeOf (suc n) p written set bytes ≡ gives is → Coded n p written set bytes is
+unfolding codeOf instructionOf
+code-says n p written set bytes is e =
+    let c1 = bound (instructionOf p written bytes) _ is e in
+    let i : Instruction = c1 .0 in
+    let c2 = bound (codeOf n p (also written (uses i .writes)) (also set (uses i .sets)) (drop (lengthOf i) bytes)) _ is (c1 .2) in
+    let d1 = bound (decodeOf bytes) _ i (c1 .1) in
+    let d2 = passed 8 (not (inRange p (d1 .0))) _ i (d1 .2) in
+    let d3 = passed 9 (not (every written (uses (d1 .0) .reads))) (gives (d1 .0)) i (d2 .1) in
+    let same : d1 .0 ≡ i = gives-inj (d3 .1) in
+    record {
+      first = i;
+      rest = c2 .0;
+      whole = sym (gives-inj (c2 .2));
+      read = d1 .1 ∙ ap gives same;
+      in-range = rw same at (not-false (inRange p (d1 .0)) (d2 .0));
+      known = rw same at (not-false (every written (uses (d1 .0) .reads)) (d3 .0));
+      behind = c2 .1;
+    }
+
+pub code-ends : (p : Program) (written set : ℕ → Bool) (bytes : List ℕ) (is : List Instruction) → codeOf 0 p written set bytes ≡ gives is →
+    (bytes ≡ []) × (is ≡ []) × ((o : ℕ) → o < p .outputs → set o ≡ true)
+unfolding codeOf
+code-ends p written set bytes is e =
+    let c1 = passed 4 (ltb 0 (length bytes)) _ is e in
+    let c2 = passed 10 (any (p .outputs) (λ o. not (set o))) (gives []) is (c1 .1) in (
+      empty bytes (ltb-false 0 (length bytes) (c1 .0)),
+      sym (gives-inj (c2 .1)),
+      (λ o l. not-false (set o) (any-false (p .outputs) o (λ o. not (set o)) (c2 .0) l)),
+    )
+  where
+    empty : (l : List ℕ) → length l ≤ 0 → l ≡ []
+    empty [] h = refl
+    empty (x ∷ l) h = absurd (omega arith)
+
+pub check-says : (file : List ℕ) (c : Code) → checkOf file ≡ gives c →
+    (headerOf file ≡ gives (c .program)) ×
+    (codeOf (c .program .count) (c .program) nothing nothing (drop header-length file) ≡ gives (c .instructions))
+unfolding checkOf
+check-says file c e =
+    let c1 = bound (headerOf file) _ c e in
+    let c2 = bound (codeOf (c1 .0 .count) (c1 .0) nothing nothing (drop header-length file)) _ c (c1 .2) in
+    let same = gives-inj (c2 .2) in
+    rw (← same) (c1 .1, c2 .1)
+
+-- ---- an accepted file is the encoding of what is read from it
+code-back : (n : ℕ) (p : Program) (written set : ℕ → Bool) (bytes : List ℕ) (is : List Instruction) → ((k : ℕ) → getD bytes k 0 < 256) →
+    codeOf n p written set bytes ≡ gives is → bytes ≡ codeBytes is
+unfolding codeBytes
+code-back zero p written set bytes is byte e =
+    let c = code-ends p written set bytes is e in
+    rw (c .1) (c .0)
+code-back (suc n) p written set bytes is byte e =
+    let c = code-says n p written set bytes is e in
+    let later : drop (lengthOf (c .first)) bytes ≡ codeBytes (c .rest) =
+    code-back n p (also written (uses (c .first) .writes)) (also set (uses (c .first) .sets)) (drop (lengthOf (c .first)) bytes) (c .rest)
+    (λ k. rw (getD-drop (lengthOf (c .first)) bytes k 0) (byte (lengthOf (c .first) + k))) (c .behind) in
+    rw (c .whole) (instruction-back bytes (c .first) byte (c .read) ∙ ap (λ (l : List ℕ). instructionBytes (c .first) ++ l) later)
+
+-- an accepted file is the header and the instructions that are read from it, written again
+pub accepted-is : (file : List ℕ) (c : Code) → ((k : ℕ) → getD file k 0 < 256) → checkOf file ≡ gives c →
+    file ≡ programFile (c .program) (c .instructions)
+unfolding programFile
+accepted-is file c byte e =
+    let s = check-says file c e in
+    header-back file (c .program) byte (s .0) ∙
+    ap (λ (l : List ℕ). headerBytes (c .program) ++ l)
+    (code-back (c .program .count) (c .program) nothing nothing (drop header-length file) (c .instructions)
+    (λ k. rw (getD-drop header-length file k 0) (byte (header-length + k))) (s .1))
+
+-- so no two accepted files are read alike
+pub accepted-one : (file other : List ℕ) (c : Code) → ((k : ℕ) → getD file k 0 < 256) → ((k : ℕ) → getD other k 0 < 256) →
+    checkOf file ≡ gives c → checkOf other ≡ gives c → file ≡ other
+accepted-one file other c byte byte′ e q = accepted-is file c byte e ∙ sym (accepted-is other c byte′ q)
+
+-- ---- an accepted program is sound
+each-true : (t : ℕ → Bool) (P : ℕ → Type 0) (xs : List ℕ) → ((x : ℕ) → t x ≡ true → P x) → every t xs ≡ true → Each P xs
+each-true t P [] f e = tt
+each-true t P (x ∷ xs) f e =
+    let s = both (t x) (every t xs) e in
+    (f x (s .0), each-true t P xs f (s .1))
+
+below : (n : ℕ) (xs : List ℕ) → every (λ x. ltb x n) xs ≡ true → Each (λ x. x < n) xs
+below n xs e = each-true (λ x. ltb x n) (λ x. x < n) xs (λ x t. ltb-true x n t) e
+
+range-fits : (p : Program) (i : Instruction) → inRange p i ≡ true → Fits p i
+range-fits p i e =
+    let wrti = both _ _ e in
+    let wrt = both _ _ (wrti .0) in
+    let wr = both _ _ (wrt .0) in (
+      below (p .registers) (uses i .writes) (wr .0),
+      below (p .registers) (uses i .reads) (wr .1),
+      below (p .inputs) (uses i .takes) (wrt .1),
+      below (p .outputs) (uses i .sets) (wrti .1),
+    )
+
+-- what the list adds to a test
+also-says : (t : ℕ → Bool) (xs : List ℕ) (r : ℕ) → also t xs r ≡ true → OneOf xs r ⊎ (t r ≡ true)
+unfolding also
+also-says t [] r e = inr e
+also-says t (x ∷ xs) r e = first (eqb x r) refl (λ q. also-says t xs r q) e
+  where
+    first : (b : Bool) → eqb x r ≡ b → (also t xs r ≡ true → OneOf xs r ⊎ (t r ≡ true)) → (b || also t xs r) ≡ true →
+        OneOf (x ∷ xs) r ⊎ (t r ≡ true)
+    first true q later e = inl (inl (sym (eqb-true x r q)))
+    first false q later e = ⊎-elim (λ (y : OneOf xs r). inl (inr y)) (λ (y : t r ≡ true). inr y) (later e)
+
+-- what is asked of instructions, where those before them wrote W and set what passes the test
+record Follows (n : ℕ) (p : Program) (W : ℕ → Type 0) (set : ℕ → Bool) (is : List Instruction) : Type 0 where
+  counted : n ≡ length is
+  in-range : Each (Fits p) is
+  ready : Ready W is none
+  all-set : (o : ℕ) → o < p .outputs → Sets o is ⊎ (set o ≡ true)
+
+set-here : (i : Instruction) (is : List Instruction) (set : ℕ → Bool) (o : ℕ) → Sets o is ⊎ (also set (uses i .sets) o ≡ true) →
+    Sets o (i ∷ is) ⊎ (set o ≡ true)
+set-here i is set o (inl x) = inl (inr x)
+set-here i is set o (inr x) =
+    ⊎-elim (λ (y : OneOf (uses i .sets) o). inl (inl y)) (λ (y : set o ≡ true). inr y) (also-says set (uses i .sets) o x)
+
+code-follows : (n : ℕ) (p : Program) (W : ℕ → Type 0) (written set : ℕ → Bool) (bytes : List ℕ) (is : List Instruction) →
+    ((r : ℕ) → written r ≡ true → W r) → codeOf n p written set bytes ≡ gives is → Follows n p W set is
+code-follows zero p W written set bytes is w e =
+    let c = code-ends p written set bytes is e in
+    rw (c .1) (record { counted = refl; in-range = tt; ready = λ r x. absurd x; all-set = λ o l. inr (c .2 o l) })
+code-follows (suc n) p W written set bytes is w e =
+    let c = code-says n p written set bytes is e in
+    let u = uses (c .first) in
+    let f =
+    code-follows n p (λ r. OneOf (u .writes) r ⊎ W r) (also written (u .writes)) (also set (u .sets)) (drop (lengthOf (c .first)) bytes) (c .rest)
+    (λ r t. ⊎-elim (λ (y : OneOf (u .writes) r). inl y) (λ (y : written r ≡ true). inr (w r y)) (also-says written (u .writes) r t)) (c .behind) in
+    rw (c .whole) (record {
+      counted = ap suc (f .counted);
+      in-range = (range-fits p (c .first) (c .in-range), f .in-range);
+      ready = (each-true written W (u .reads) w (c .known), f .ready);
+      all-set = λ o l. set-here (c .first) (c .rest) set o (f .all-set o l);
+    })
+
+never : {P : Type 0} → false ≡ true → P
+never e = absurd (let z : _≡_ {A = ℕ} 0 1 = cc in omega arith)
+
+pub accepted-sound : (file : List ℕ) (c : Code) → checkOf file ≡ gives c → Sound (c .program) (c .instructions)
+accepted-sound file c e =
+    let s = check-says file c e in
+    let f = code-follows (c .program .count) (c .program) none nothing nothing (drop header-length file) (c .instructions)
+    (λ r t. never t) (s .1) in
+    record {
+      limits = header-says file (c .program) (s .0) .limits;
+      counted = f .counted;
+      in-range = f .in-range;
+      written = f .ready;
+      all-set = λ o l. ⊎-elim (λ (y : Sets o (c .instructions)). y) (λ (y : false ≡ true). never y) (f .all-set o l);
+    }
+
+-- ---- the checker's tests in plain words, and back
+each-at : (P : Instruction → Type 0) (is : List Instruction) → Each P is → (k : ℕ) (i : Instruction) → At is k i → P i
+each-at P [] e k i a = absurd a
+each-at P (x ∷ xs) e zero i a = subst P a (e .0)
+each-at P (x ∷ xs) e (suc k) i a = each-at P xs (e .1) k i a
+
+at-each : (P : Instruction → Type 0) (is : List Instruction) → ((k : ℕ) (i : Instruction) → At is k i → P i) → Each P is
+at-each P [] f = tt
+at-each P (x ∷ xs) f = (f 0 x refl, at-each P xs (λ k i a. f (suc k) i a))
+
+sets-at : (o : ℕ) (is : List Instruction) → Sets o is → SetBy is o
+sets-at o [] s = absurd s
+sets-at o (x ∷ xs) (inl s) = (0, x, refl, s)
+sets-at o (x ∷ xs) (inr s) =
+    let t = sets-at o xs s in
+    (suc (t .0), t .1, t .2, t .3)
+
+at-sets : (o : ℕ) (is : List Instruction) → SetBy is o → Sets o is
+at-sets o [] (k, i, a, s) = absurd a
+at-sets o (x ∷ xs) (zero, i, a, s) = inl (rw a s)
+at-sets o (x ∷ xs) (suc k, i, a, s) = inr (at-sets o xs (k, i, a, s))
+
+each-one : (W : ℕ → Type 0) (xs : List ℕ) → Each W xs → (r : ℕ) → OneOf xs r → W r
+each-one W [] e r o = absurd o
+each-one W (x ∷ xs) e r (inl o) = rw o (e .0)
+each-one W (x ∷ xs) e r (inr o) = each-one W xs (e .1) r o
+
+one-each : (W : ℕ → Type 0) (xs : List ℕ) → ((r : ℕ) → OneOf xs r → W r) → Each W xs
+one-each W [] f = tt
+one-each W (x ∷ xs) f = (f x (inl refl), one-each W xs (λ r o. f r (inr o)))
+
+ready-earlier : (W : ℕ → Type 0) (is : List Instruction) → Ready W is none → (k r : ℕ) → Read is k r → W r ⊎ Earlier is k r
+ready-earlier W [] e k r (i, a, o) = absurd a
+ready-earlier W (x ∷ xs) e zero r (i, a, o) = inl (each-one W (uses x .reads) (e .0) r (rw a o))
+ready-earlier W (x ∷ xs) e (suc k) r d = here (ready-earlier (λ r. OneOf (uses x .writes) r ⊎ W r) xs (e .1) k r d)
+  where
+    here : (OneOf (uses x .writes) r ⊎ W r) ⊎ Earlier xs k r → W r ⊎ Earlier (x ∷ xs) (suc k) r
+    here (inl (inl w)) = inr (0, x, omega arith, refl, w)
+    here (inl (inr w)) = inl w
+    here (inr (j, e, l, a, o)) = inr (suc j, e, omega arith, a, o)
+
+earlier-ready : (W : ℕ → Type 0) (is : List Instruction) → ((k r : ℕ) → Read is k r → W r ⊎ Earlier is k r) → Ready W is none
+earlier-ready W [] f = λ r x. absurd x
+earlier-ready W (x ∷ xs) f = (
+  one-each W (uses x .reads) (λ r o. first r (f 0 r (x, refl, o))),
+  earlier-ready (λ r. OneOf (uses x .writes) r ⊎ W r) xs (λ k r d. here k r (f (suc k) r d)),
+)
+  where
+    first : (r : ℕ) → W r ⊎ Earlier (x ∷ xs) 0 r → W r
+    first r (inl w) = w
+    first r (inr w) = absurd (omega (arith, w .2))
+
+    here : (k r : ℕ) → W r ⊎ Earlier (x ∷ xs) (suc k) r → (OneOf (uses x .writes) r ⊎ W r) ⊎ Earlier xs k r
+    here k r (inl w) = inl (inr w)
+    here k r (inr (zero, e, l, a, o)) = inl (inl (rw a o))
+    here k r (inr (suc j, e, l, a, o)) = inr (j, e, omega arith, a, o)
+
+limits-hold : (p : Program) → Within p → within p ≡ true
+limits-hold p w =
+    rw (
+      le-leb 1 (p .registers) (w .some-registers),
+      le-leb (p .registers) most-registers (w .few-registers),
+      le-leb 1 (p .inputs) (w .some-inputs),
+      le-leb (p .inputs) most-inputs (w .few-inputs),
+      le-leb 1 (p .outputs) (w .some-outputs),
+      le-leb (p .outputs) most-outputs (w .few-outputs),
+      le-leb (p .count) most-instructions (w .few-instructions),
+    )
+
+module _ (p : Program) (is : List Instruction) where
+  pub sound-formed : Sound p is → WellFormed p is
+  sound-formed s = record {
+    limits = within-means p (s .limits);
+    counted = s .counted;
+    in-range = each-at (Fits p) is (s .in-range);
+    written = λ k r d. ⊎-elim (λ (y : ⊥). absurd y) (λ (y : Earlier is k r). y) (ready-earlier none is (s .written) k r d);
+    all-set = λ o l. sets-at o is (s .all-set o l);
+  }
+
+  pub formed-sound : WellFormed p is → Sound p is
+  formed-sound m = record {
+    limits = limits-hold p (m .limits);
+    counted = m .counted;
+    in-range = at-each (Fits p) is (m .in-range);
+    written = earlier-ready none is (λ k r d. inr (m .written k r d));
+    all-set = λ o l. at-sets o is (m .all-set o l);
+  }
+
+-- what acceptance means, whatever the bytes
+pub accepted-means : (file : List ℕ) (c : Code) → checkOf file ≡ gives c → WellFormed (c .program) (c .instructions)
+accepted-means file c e = sound-formed (c .program) (c .instructions) (accepted-sound file c e)
+
+-- a file is accepted, and read as c, exactly when c is well formed and the file is its encoding
+pub accepted-iff : (file : List ℕ) (c : Code) → ((k : ℕ) → getD file k 0 < 256) →
+    (checkOf file ≡ gives c) ↔ (WellFormed (c .program) (c .instructions) × (file ≡ programFile (c .program) (c .instructions)))
+accepted-iff file c byte = (
+  (λ e. (accepted-means file c e, accepted-is file c byte e)),
+  (λ m. rw (m .1) (accepted (c .program) (c .instructions) (formed-sound (c .program) (c .instructions) (m .0)))),
+)

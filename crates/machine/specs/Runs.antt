@@ -1,0 +1,79 @@
+-- 01, "Runs, words, samples": what a start and a resume come to. Assumes nothing.
+use Prim.Native.Nat.{ℕ, _+_, _-_, min}
+use mathlib.Core.Bool.{Bool}
+use mathlib.Core.List.{List}
+use lib.Dec.{eqb, ltb}
+use lib.ListN.{length, take, drop, replicate}
+use Rattle.laws.specs.Outcome.{Outcome, refused, gives, refuse, _>>_, _>>=_}
+use Rattle.files.specs.Refusal.{numberOf}
+use Rattle.programs.specs.declared.description.Program.{Program}
+use Rattle.programs.specs.declared.description.Instruction.{Instruction}
+use Rattle.machine.specs.Meaning.{Gates, words, State, exec}
+use Rattle.machine.specs.Checks.{Code, checkOf}
+use Rattle.machine.specs.declared.runs.Run.{Run}
+use Rattle.machine.specs.declared.runs.Ran.{Ran}
+use Rattle.machine.specs.declared.runs.Ran.the-variants as Ran
+
+-- what a run comes to: its answer, and the program's registers and outputs after it
+pub record Ended (A : Type 0) : Type 0 where
+  pub answer : Run
+  pub state : State A
+
+-- the instructions that a run carries out: as many as the budget allows and are left
+abbrev pub steps : ℕ → ℕ → ℕ → ℕ
+steps budget position count = min budget (count - position)
+
+-- the answer: finished where no instruction is left
+abbrev pub answerOf : ℕ → ℕ → ℕ → Run
+answerOf budget position count =
+    record {
+      finished = eqb (position + steps budget position count) count;
+      position = position + steps budget position count;
+      count = steps budget position count;
+      budget = budget;
+    }
+
+module _ {A : Type 0} (G : Gates A) where
+  -- a run from a position on
+  unfoldable pub runOf : List Instruction → List A → ℕ → ℕ → State A → Ended A
+  runOf is inputs position budget s =
+      record {
+        answer = answerOf budget position (length is);
+        state = exec G inputs (take (steps budget position (length is)) (drop position is)) s;
+      }
+
+  -- 13: buffers shorter than the header says
+  abbrev pub roomFor : Program → List A → List A → List A → Outcome (Unit {0})
+  roomFor p inputs registers outputs = do
+    refuse 13 (ltb (length inputs) (p .inputs))
+    refuse 13 (ltb (length registers) (p .registers))
+    refuse 13 (ltb (length outputs) (p .outputs))
+    gives tt
+
+  -- a start: the program's registers and outputs are 0, and it begins at instruction 0
+  unfoldable pub startOn : List ℕ → List A → List A → List A → ℕ → Outcome (Ended A)
+  startOn file inputs registers outputs budget = do
+    c ← checkOf file
+    roomFor (c .program) inputs registers outputs
+    gives (runOf (c .instructions) inputs 0 budget
+        (record { registers = replicate (c .program .registers) (G .zeros); outputs = replicate (c .program .outputs) (G .zeros) }))
+
+  -- a resume: it begins at the position given, and clears nothing
+  unfoldable pub resumeOn : List ℕ → List A → List A → List A → ℕ → ℕ → Outcome (Ended A)
+  resumeOn file inputs registers outputs position budget = do
+    c ← checkOf file
+    refuse 12 (ltb (length (c .instructions)) position)
+    roomFor (c .program) inputs registers outputs
+    gives (runOf (c .instructions) inputs position budget
+        (record { registers = take (c .program .registers) registers; outputs = take (c .program .outputs) outputs }))
+
+abbrev pub startOf : List ℕ → List ℕ → List ℕ → List ℕ → ℕ → Outcome (Ended ℕ)
+startOf = startOn words
+
+abbrev pub resumeOf : List ℕ → List ℕ → List ℕ → List ℕ → ℕ → ℕ → Outcome (Ended ℕ)
+resumeOf = resumeOn words
+
+-- ---- the answers' cases in 01's numbers and values
+abbrev pub ran : Ran → Outcome Run
+ran (Ran.Refused why) = refused (numberOf why)
+ran (Ran.Done r) = gives r

@@ -1,0 +1,189 @@
+-- Where instructions stand in bytes, for code that goes through them by kind and length. Assumes nothing.
+use Prim.Native.Nat.{ℕ, zero, suc, _+_, _-_, _≤_, _<_}
+use mathlib.Core.Path.{_≡_, refl, sym, ap, _∙_}
+use mathlib.Core.List.{List, [], _∷_}
+use native.Mathlib.Nat.{not-suc-le-zero, le-of-suc-le-suc}
+use native.Mathlib.Omega.{arith}
+use lib.ListN.{length, drop, length-drop}
+use lib.Seq.{drop-drop}
+use Rattle.laws.specs.Outcome.{Outcome, refused, gives, gives-inj}
+use Rattle.files.specs.Fields.{fieldOf}
+use Rattle.programs.specs.Instructions.{kindOf, lengthOf, ofKind, decodeOf}
+use Rattle.programs.specs.Inverse.{field-drop, length-some, Reads, decode-reads, named-kind}
+use Rattle.programs.specs.declared.description.Instruction.{Instruction}
+use Rattle.programs.specs.declared.description.Instruction.the-variants.{Ones, Zero, Input, Not, And, Or, Output}
+
+-- the operands are among so many registers, inputs and outputs
+abbrev pub InRange : ℕ → ℕ → ℕ → Instruction → Type 0
+InRange nr ni nq (Ones to) = to < nr
+InRange nr ni nq (Zero to) = to < nr
+InRange nr ni nq (Input to n) = (to < nr) × (n < ni)
+InRange nr ni nq (Not to a) = (to < nr) × (a < nr)
+InRange nr ni nq (And to a b) = (to < nr) × (a < nr) × (b < nr)
+InRange nr ni nq (Or to a b) = (to < nr) × (a < nr) × (b < nr)
+InRange nr ni nq (Output o a) = (o < nq) × (a < nr)
+
+-- go on with a result, or take what is given for a refusal
+abbrev pub onGives {ℓ} : {A : Type 0} {B : Type ℓ} → Outcome A → B → (A → B) → B
+onGives (refused n) none f = none
+onGives (gives a) none f = f a
+
+-- the instructions in some bytes, n of them
+unfoldable pub readOf : ℕ → List ℕ → List Instruction
+readOf zero bytes = []
+readOf (suc n) bytes = onGives (decodeOf bytes) [] (λ i. i ∷ readOf n (drop (lengthOf i) bytes))
+
+-- they are there, each with its operands in range
+unfoldable pub Formed : ℕ → ℕ → ℕ → ℕ → List ℕ → Type 0
+Formed zero nr ni nq bytes = Unit {0}
+Formed (suc n) nr ni nq bytes = onGives (decodeOf bytes) ⊥ (λ i. InRange nr ni nq i × Formed n nr ni nq (drop (lengthOf i) bytes))
+
+-- the same for some inputs and outputs, for code that uses registers alone
+pub record Known (n nr : ℕ) (bytes : List ℕ) : Type 0 where
+  pub ni : ℕ
+  pub nq : ℕ
+  pub formed : Formed n nr ni nq bytes
+
+pub record Standing (n : ℕ) (bytes : List ℕ) : Type 0 where
+  pub nr : ℕ
+  pub ni : ℕ
+  pub nq : ℕ
+  pub formed : Formed n nr ni nq bytes
+
+-- ---- one instruction
+-- it stands at a byte of a file
+pub record Stands (file : List ℕ) (at : ℕ) (i : Instruction) : Type 0 where
+  pub reads : decodeOf (drop at file) ≡ gives i
+  pub room : at + lengthOf i ≤ length file
+  pub long : fieldOf file at ≡ lengthOf i
+  pub named : ofKind (fieldOf file (at + 2)) (fieldOf file (at + 4)) (fieldOf file (at + 6)) (fieldOf file (at + 8)) ≡ gives i
+
+pub record Ready (file : List ℕ) (at nr ni nq : ℕ) : Type 0 where
+  pub i : Instruction
+  pub stands : Stands file at i
+  pub range : InRange nr ni nq i
+
+-- an AND or an OR stands there, with its operands in range
+pub record Gate (file : List ℕ) (at nr : ℕ) : Type 0 where
+  pub room : at + 10 ≤ length file
+  pub into : fieldOf file (at + 4) < nr
+  pub left : fieldOf file (at + 6) < nr
+  pub right : fieldOf file (at + 8) < nr
+
+pub reads-stands : (file : List ℕ) (at : ℕ) (i : Instruction) → decodeOf (drop at file) ≡ gives i → Stands file at i
+reads-stands file at i e =
+    let r = decode-reads (drop at file) i e in
+    let z : at + 0 ≡ at = omega arith in
+    record {
+      reads = e;
+      room = omega (arith, r .room, length-drop at file, length-some i);
+      long = rw (field-drop at file 0, z) at (r .long);
+      named = rw (field-drop at file 2, field-drop at file 4, field-drop at file 6, field-drop at file 8) at (r .named);
+    }
+
+-- ---- instructions one after another
+module _ (n : ℕ) (bytes : List ℕ) (i : Instruction) (e : decodeOf bytes ≡ gives i) where
+  pub read-first : readOf (suc n) bytes ≡ i ∷ readOf n (drop (lengthOf i) bytes)
+  unfolding readOf
+  read-first = rw e
+
+  pub formed-first : (nr ni nq : ℕ) → Formed (suc n) nr ni nq bytes → InRange nr ni nq i × Formed n nr ni nq (drop (lengthOf i) bytes)
+  unfolding Formed
+  formed-first nr ni nq h = rw e at h
+
+pub formed-ready : (n nr ni nq : ℕ) (file : List ℕ) (at : ℕ) → Formed (suc n) nr ni nq (drop at file) → Ready file at nr ni nq
+unfolding Formed
+formed-ready n nr ni nq file at h = by (decodeOf (drop at file)) refl h
+  where
+    by : (o : Outcome Instruction) → decodeOf (drop at file) ≡ o →
+        onGives o ⊥ (λ i. InRange nr ni nq i × Formed n nr ni nq (drop (lengthOf i) (drop at file))) → Ready file at nr ni nq
+    by (refused k) e z = absurd z
+    by (gives i) e z = record { i = i; stands = reads-stands file at i e; range = z .0 }
+
+-- in the code's words: something is left, and what stands at the front of it
+pub some-ready : (n nr ni nq : ℕ) (file : List ℕ) (at : ℕ) → 0 < n → Formed n nr ni nq (drop at file) → Ready file at nr ni nq
+some-ready n nr ni nq file at l f =
+    let e : n ≡ suc (n - 1) = omega arith in
+    formed-ready (n - 1) nr ni nq file at (rw e at f)
+
+pub known-ready : (n nr : ℕ) (file : List ℕ) (at : ℕ) → 0 < n → (k : Known n nr (drop at file)) → Ready file at nr (k .ni) (k .nq)
+known-ready n nr file at l k = some-ready n nr (k .ni) (k .nq) file at l (k .formed)
+
+-- fewer of them are there too
+onGives-map : (o : Outcome Instruction) (P Q : Instruction → Type 0) → ((i : Instruction) → P i → Q i) → onGives o ⊥ P → onGives o ⊥ Q
+onGives-map (refused k) P Q f h = h
+onGives-map (gives i) P Q f h = f i h
+
+pub formed-less : (m n nr ni nq : ℕ) (bytes : List ℕ) → m ≤ n → Formed n nr ni nq bytes → Formed m nr ni nq bytes
+unfolding Formed
+formed-less zero n nr ni nq bytes l h = tt
+formed-less (suc m) zero nr ni nq bytes l h = absurd (not-suc-le-zero l)
+formed-less (suc m) (suc n) nr ni nq bytes l h =
+    onGives-map (decodeOf bytes) _ _ (λ i g. (g .0, formed-less m n nr ni nq (drop (lengthOf i) bytes) (le-of-suc-le-suc l) (g .1))) h
+
+-- ---- the kind tells the instruction
+last-kind : (k : ℕ) (i : Instruction) → k ≡ kindOf i → (k ≡ 1 → ⊥) → (k ≡ 2 → ⊥) → (k ≡ 3 → ⊥) → (k ≡ 4 → ⊥) → (k ≡ 5 → ⊥) → (k ≡ 6 → ⊥) → k ≡ 7
+last-kind k (Ones to) e n1 n2 n3 n4 n5 n6 = absurd (n1 e)
+last-kind k (Zero to) e n1 n2 n3 n4 n5 n6 = absurd (n2 e)
+last-kind k (Input to n) e n1 n2 n3 n4 n5 n6 = absurd (n3 e)
+last-kind k (Not to a) e n1 n2 n3 n4 n5 n6 = absurd (n4 e)
+last-kind k (And to a b) e n1 n2 n3 n4 n5 n6 = absurd (n5 e)
+last-kind k (Or to a b) e n1 n2 n3 n4 n5 n6 = absurd (n6 e)
+last-kind k (Output o a) e n1 n2 n3 n4 n5 n6 = e
+
+long-kind : (k : ℕ) (i : Instruction) → k ≡ kindOf i → (k ≡ 1 → ⊥) → (k ≡ 2 → ⊥) → 8 ≤ lengthOf i
+long-kind k (Ones to) e n1 n2 = absurd (n1 e)
+long-kind k (Zero to) e n1 n2 = absurd (n2 e)
+long-kind k (Input to n) e n1 n2 = omega arith
+long-kind k (Not to a) e n1 n2 = omega arith
+long-kind k (And to a b) e n1 n2 = omega arith
+long-kind k (Or to a b) e n1 n2 = omega arith
+long-kind k (Output o a) e n1 n2 = omega arith
+
+module _ (file : List ℕ) (at nr ni nq : ℕ) (r : Ready file at nr ni nq) where
+  pub ready-room : at + 6 ≤ length file
+  ready-room = omega (arith, r .stands .room, length-some (r .i))
+
+  -- the instruction that the kind's clause says is the one that stands there
+  told : (i : Instruction) → ofKind (fieldOf file (at + 2)) (fieldOf file (at + 4)) (fieldOf file (at + 6)) (fieldOf file (at + 8)) ≡ gives i →
+      Stands file at i × InRange nr ni nq i
+  told i e =
+      let q : r .i ≡ i = gives-inj (sym (r .stands .named) ∙ e) in
+      (rw q at (r .stands), rw q at (r .range))
+
+  module _ (k : ℕ) (is-k : k ≡ fieldOf file (at + 2)) where
+    kind-is : k ≡ kindOf (r .i)
+    kind-is =
+        is-k ∙ named-kind (fieldOf file (at + 2)) (fieldOf file (at + 4)) (fieldOf file (at + 6)) (fieldOf file (at + 8)) (r .i) (r .stands .named)
+
+    pub is-ones : k ≡ 1 → Stands file at (Ones (fieldOf file (at + 4))) × (fieldOf file (at + 4) < nr)
+    is-ones e = told (Ones (fieldOf file (at + 4))) (rw (sym is-k ∙ e))
+
+    pub is-zero : k ≡ 2 → Stands file at (Zero (fieldOf file (at + 4))) × (fieldOf file (at + 4) < nr)
+    is-zero e = told (Zero (fieldOf file (at + 4))) (rw (sym is-k ∙ e))
+
+    pub is-input : k ≡ 3 → Stands file at (Input (fieldOf file (at + 4)) (fieldOf file (at + 6))) × ((fieldOf file (at + 4) < nr) × (fieldOf file (at + 6) < ni))
+    is-input e = told (Input (fieldOf file (at + 4)) (fieldOf file (at + 6))) (rw (sym is-k ∙ e))
+
+    pub is-not : k ≡ 4 → Stands file at (Not (fieldOf file (at + 4)) (fieldOf file (at + 6))) × ((fieldOf file (at + 4) < nr) × (fieldOf file (at + 6) < nr))
+    is-not e = told (Not (fieldOf file (at + 4)) (fieldOf file (at + 6))) (rw (sym is-k ∙ e))
+
+    pub is-and : k ≡ 5 → Stands file at (And (fieldOf file (at + 4)) (fieldOf file (at + 6)) (fieldOf file (at + 8))) × Gate file at nr
+    is-and e =
+        let s = told (And (fieldOf file (at + 4)) (fieldOf file (at + 6)) (fieldOf file (at + 8))) (rw (sym is-k ∙ e)) in
+        (s .0, record { room = s .0 .room; into = s .1 .0; left = s .1 .1; right = s .1 .2 })
+
+    pub is-or : k ≡ 6 → Stands file at (Or (fieldOf file (at + 4)) (fieldOf file (at + 6)) (fieldOf file (at + 8))) × Gate file at nr
+    is-or e =
+        let s = told (Or (fieldOf file (at + 4)) (fieldOf file (at + 6)) (fieldOf file (at + 8))) (rw (sym is-k ∙ e)) in
+        (s .0, record { room = s .0 .room; into = s .1 .0; left = s .1 .1; right = s .1 .2 })
+
+    pub is-output : (k ≡ 1 → ⊥) → (k ≡ 2 → ⊥) → (k ≡ 3 → ⊥) → (k ≡ 4 → ⊥) → (k ≡ 5 → ⊥) → (k ≡ 6 → ⊥) →
+        Stands file at (Output (fieldOf file (at + 4)) (fieldOf file (at + 6))) × ((fieldOf file (at + 4) < nq) × (fieldOf file (at + 6) < nr))
+    is-output n1 n2 n3 n4 n5 n6 =
+        let e : k ≡ 7 = last-kind k (r .i) kind-is n1 n2 n3 n4 n5 n6 in
+        told (Output (fieldOf file (at + 4)) (fieldOf file (at + 6))) (rw (sym is-k ∙ e))
+
+    -- all but ONES and ZERO have a second operand
+    pub second-room : (k ≡ 1 → ⊥) → (k ≡ 2 → ⊥) → at + 8 ≤ length file
+    second-room n1 n2 = omega (arith, r .stands .room, long-kind k (r .i) kind-is n1 n2)

@@ -1,0 +1,216 @@
+// The check of a program file: header first, then instruction by instruction, then what is left over (01, "The engine's no").
+ghost use mathlib.Core.Path.{_≡_};
+ghost use mathlib.Core.Bool.{not, true};
+ghost use Prim.Native.Nat.{_+_, _≤_, _<_};
+ghost use lib.ListN.{drop, length};
+ghost use Rattle.laws.specs.Sums.{any};
+ghost use Rattle.laws.specs.Outcome.{mapped};
+ghost use Rattle.programs.specs.Limits.{most-inputs, most-outputs, most-registers, within};
+ghost use Rattle.programs.specs.Instructions.{uses};
+ghost use Rattle.programs.specs.Header.{checked, header-length};
+ghost use Rattle.machine.specs.Checks.{checkOf, every, inRange, nothing};
+ghost use Rattle.machine.specs.Standing.{InRange};
+ghost use Rattle.machine.specs.Checking.{Admits, flagged, Marks, Passes, restOf, SoundGate};
+use crate::steps::Left;
+use crate::steps::field_at;
+use crate::steps::lesser;
+use crate::steps::wide_at;
+use files::Refusal;
+use programs::Checked;
+use programs::Decoded;
+use programs::Instruction;
+use programs::Program;
+use programs::Seen;
+use programs::decode;
+use programs::read_header;
+
+// Whether each operand is below its count.
+fn in_range(i: Instruction, p: Program) -> bool
+    ensures { λ r. ⌜ r ≡ inRange p i ⌝ }
+{
+    let n = p.registers;
+    match i {
+        Instruction::Ones(to) => (to as usize) < n,
+        Instruction::Zero(to) => (to as usize) < n,
+        Instruction::Input(to, x) => ((to as usize) < n) & ((x as usize) < p.inputs),
+        Instruction::Not(to, a) => ((to as usize) < n) & ((a as usize) < n),
+        Instruction::And(to, a, b) => ((to as usize) < n) & ((a as usize) < n) & ((b as usize) < n),
+        Instruction::Or(to, a, b) => ((to as usize) < n) & ((a as usize) < n) & ((b as usize) < n),
+        Instruction::Output(o, a) => ((a as usize) < n) & ((o as usize) < p.outputs),
+    }
+}
+
+// Whether each register that an instruction reads is written.
+fn readable(i: Instruction, written: &[bool; Program::REGISTERS]) -> bool
+    requires { ⌜ InRange most-registers most-inputs most-outputs i ⌝ }
+    ensures { λ r. ⌜ r ≡ every (flagged (now (written .entry))) (uses i .reads) ⌝ }
+{
+    match i {
+        Instruction::Ones(_) => true,
+        Instruction::Zero(_) => true,
+        Instruction::Input(_, _) => true,
+        Instruction::Not(_, a) => written[a as usize],
+        Instruction::And(_, a, b) => written[a as usize] & written[b as usize],
+        Instruction::Or(_, a, b) => written[a as usize] & written[b as usize],
+        Instruction::Output(_, a) => written[a as usize],
+    }
+}
+
+// Marks the register that an instruction writes, or the output that it sets.
+fn mark(
+    i: Instruction,
+    written: &mut [bool; Program::REGISTERS],
+    set: &mut [bool; Program::OUTPUTS],
+)
+    requires { ⌜ InRange most-registers most-inputs most-outputs i ⌝ }
+    requires { ⌜ (length (now written) ≡ most-registers) × (length (now set) ≡ most-outputs) ⌝ }
+    ensures { λ _. ⌜ Marks i (now (written .entry)) (now (set .entry)) (now (written .exit)) (now (set .exit)) ⌝ }
+{
+    match i {
+        Instruction::Ones(to) => written[to as usize] = true,
+        Instruction::Zero(to) => written[to as usize] = true,
+        Instruction::Input(to, _) => written[to as usize] = true,
+        Instruction::Not(to, _) => written[to as usize] = true,
+        Instruction::And(to, _, _) => written[to as usize] = true,
+        Instruction::Or(to, _, _) => written[to as usize] = true,
+        Instruction::Output(o, _) => set[o as usize] = true,
+    }
+}
+
+// A refusal, or the byte after an instruction.
+enum Admitted {
+    Refused(Refusal),
+    Next(usize),
+}
+
+// One instruction: refusals 1, 7, 8 and 9. What it writes or sets is marked.
+fn admit(
+    file: &[u8],
+    at: usize,
+    p: Program,
+    written: &mut [bool; Program::REGISTERS],
+    set: &mut [bool; Program::OUTPUTS],
+) -> Admitted
+    requires { ⌜ (within p ≡ true) × (length (now written) ≡ most-registers) × (length (now set) ≡ most-outputs) ⌝ }
+    ensures { λ r. ⌜ Admits r (now (file .entry)) at p (now (written .entry)) (now (set .entry)) (now (written .exit)) (now (set .exit)) ⌝ }
+{
+    match decode(file, at) {
+        Decoded::Refused(why) => Admitted::Refused(why),
+        Decoded::Instruction(i) => {
+            if !in_range(i, p) {
+                return Admitted::Refused(Refusal::Operand);
+            }
+            if !readable(i, written) {
+                return Admitted::Refused(Refusal::Unwritten);
+            }
+            mark(i, written, set);
+            Admitted::Next(at + i.length())
+        }
+    }
+}
+
+// Whether the operands of the AND or OR at byte `at` are registers, and those that it reads written.
+fn sound_gate(
+    file: &[u8],
+    at: usize,
+    registers: usize,
+    written: &[bool; Program::REGISTERS],
+) -> bool
+    requires { ⌜ (at + 10 ≤ length (now file)) × (registers ≤ most-registers) ⌝ }
+    ensures { λ r. ⌜ (r ≡ true → SoundGate (now (file .entry)) at registers (now (written .entry))) ⌝ }
+{
+    let to = field_at(file, at + 4);
+    let a = field_at(file, at + 6);
+    let b = field_at(file, at + 8);
+    if registers <= to {
+        return false;
+    }
+    if registers <= a {
+        return false;
+    }
+    if registers <= b {
+        return false;
+    }
+    written[a] & written[b]
+}
+
+// Passes ANDs, or ORs, that no refusal is due for, as long as one follows another. The first that is none is left to `admit`. Most of a
+// program is such runs: length and kind are tried as one number, and the room for all of them once.
+fn gates(
+    file: &[u8],
+    from: usize,
+    count: usize,
+    kind: usize,
+    registers: usize,
+    written: &mut [bool; Program::REGISTERS],
+) -> Left
+    requires { ⌜ (registers ≤ most-registers) × (length (now written) ≡ most-registers) × (from ≤ length (now file)) × (5 ≤ kind) × (kind ≤ 6) ⌝ }
+    ensures { λ r. ⌜ Passes (now (file .entry)) registers count from (now (written .entry)) (r .more) (r .at) (now (written .exit)) ⌝ }
+{
+    let head = 10 + 65536 * kind;
+    let most = lesser(count, (file.len() - from) / 10);
+    let mut at = from;
+    let mut done: usize = 0;
+    while done < most && wide_at(file, at) == head && sound_gate(file, at, registers, written) {
+        let to = field_at(file, at + 4);
+        written[to] = true;
+        at += 10;
+        done += 1;
+    }
+    Left {
+        at,
+        more: count - done,
+    }
+}
+
+// Whether one of so many outputs is not set.
+fn any_unset(set: &[bool; Program::OUTPUTS], outputs: usize) -> bool
+    requires { ⌜ outputs ≤ most-outputs ⌝ }
+    ensures { λ r. ⌜ r ≡ any outputs (λ o. not (flagged (now (set .entry)) o)) ⌝ }
+{
+    for o in 0..outputs {
+        if !set[o] {
+            return true;
+        }
+    }
+    false
+}
+
+// The instructions of a file whose header has passed, and what is left over.
+fn body(file: &[u8], p: Program) -> Checked
+    requires { ⌜ (within p ≡ true) × (header-length ≤ length (now file)) ⌝ }
+    ensures { λ r. ⌜ checked r ≡ restOf (now (file .entry)) p nothing nothing (p .count) header-length ⌝ }
+{
+    let seen = Seen::fresh();
+    let mut written = seen.written;
+    let mut set = seen.set;
+    let mut at = Program::HEADER;
+    let mut more = p.count as usize;
+    while 0 < more {
+        match admit(file, at, p, &mut written, &mut set) {
+            Admitted::Refused(why) => return Checked::Refused(why),
+            Admitted::Next(next) => at = next,
+        }
+        let a = gates(file, at, more - 1, 5, p.registers, &mut written);
+        let o = gates(file, a.at, a.more, 6, p.registers, &mut written);
+        at = o.at;
+        more = o.more;
+    }
+    if at < file.len() {
+        return Checked::Refused(Refusal::Length);
+    }
+    if any_unset(&set, p.outputs) {
+        return Checked::Refused(Refusal::Unset);
+    }
+    Checked::Program(p)
+}
+
+// Checks a program file: its registers, inputs, outputs and count, or refusal 1 to 4 or 7 to 10.
+pub fn check(program: &[u8]) -> Checked
+    ensures { λ r. ⌜ checked r ≡ mapped (λ c. c .program) (checkOf (now (program .entry))) ⌝ }
+{
+    match read_header(program) {
+        Checked::Refused(why) => Checked::Refused(why),
+        Checked::Program(p) => body(program, p),
+    }
+}

@@ -1,0 +1,152 @@
+// Instructions carried out on words, straight from their bytes (01, "Files").
+ghost use mathlib.Core.Path.{_≡_};
+ghost use Prim.Native.Nat.{_+_, _*_, _≤_, _<_, min};
+ghost use lib.ListN.{drop, length};
+ghost use Rattle.files.specs.Fields.{fieldOf};
+ghost use Rattle.machine.specs.Standing.{Formed, Gate, Known, Ready};
+ghost use Rattle.machine.specs.Turns.{Along, andWords, Carried, Does, orWords};
+
+// The 16-bit field at `at`, in bytes that hold it.
+pub(crate) fn field_at(file: &[u8], at: usize) -> usize
+    requires { ⌜ at + 2 ≤ length (now file) ⌝ }
+    ensures { λ r. ⌜ (r ≡ fieldOf (now (file .entry)) at) × (r < 65536) ⌝ }
+{
+    (file[at] as usize) + 256 * (file[at + 1] as usize)
+}
+
+// The 32-bit number at `at`, in bytes that hold it.
+pub(crate) fn wide_at(file: &[u8], at: usize) -> usize
+    requires { ⌜ at + 4 ≤ length (now file) ⌝ }
+    ensures { λ r. ⌜ (r ≡ fieldOf (now (file .entry)) at + 65536 * fieldOf (now (file .entry)) (at + 2)) × (fieldOf (now (file .entry)) at < 65536) ⌝ }
+{
+    field_at(file, at) + 65536 * field_at(file, at + 2)
+}
+
+pub(crate) fn lesser(a: usize, b: usize) -> usize
+    ensures { λ r. ⌜ r ≡ min a b ⌝ }
+{
+    if a < b { a } else { b }
+}
+
+// The AND at byte `at`.
+fn and_at(file: &[u8], at: usize, registers: &mut [u64])
+    requires { ⌜ Gate (now file) at (length (now registers)) ⌝ }
+    ensures { λ _. ⌜ now (registers .exit) ≡ andWords (now (file .entry)) at (now (registers .entry)) ⌝ }
+{
+    let to = field_at(file, at + 4);
+    let a = field_at(file, at + 6);
+    let b = field_at(file, at + 8);
+    registers[to] = registers[a] & registers[b];
+}
+
+// The OR at byte `at`.
+fn or_at(file: &[u8], at: usize, registers: &mut [u64])
+    requires { ⌜ Gate (now file) at (length (now registers)) ⌝ }
+    ensures { λ _. ⌜ now (registers .exit) ≡ orWords (now (file .entry)) at (now (registers .entry)) ⌝ }
+{
+    let to = field_at(file, at + 4);
+    let a = field_at(file, at + 6);
+    let b = field_at(file, at + 8);
+    registers[to] = registers[a] | registers[b];
+}
+
+// The instruction at byte `at`, of any kind; answers where the next one begins.
+fn step_at(
+    file: &[u8],
+    at: usize,
+    inputs: &[u64],
+    registers: &mut [u64],
+    outputs: &mut [u64],
+) -> usize
+    requires { ⌜ Ready (now file) at (length (now registers)) (length (now inputs)) (length (now outputs)) ⌝ }
+    ensures { λ r. ⌜ Does (now (file .entry)) at (now (inputs .entry)) (now (registers .entry)) (now (outputs .entry)) r (now (registers .exit)) (now (outputs .exit)) ⌝ }
+{
+    let kind = field_at(file, at + 2);
+    if kind == 5 {
+        and_at(file, at, registers);
+        return at + 10;
+    }
+    if kind == 6 {
+        or_at(file, at, registers);
+        return at + 10;
+    }
+    let to = field_at(file, at + 4);
+    if kind == 1 {
+        registers[to] = 0xffff_ffff_ffff_ffff;
+        return at + 6;
+    }
+    if kind == 2 {
+        registers[to] = 0;
+        return at + 6;
+    }
+    let from = field_at(file, at + 6);
+    if kind == 3 {
+        registers[to] = inputs[from];
+        return at + 8;
+    }
+    if kind == 4 {
+        registers[to] = !registers[from];
+        return at + 8;
+    }
+    outputs[to] = registers[from];
+    at + 8
+}
+
+// Where a run is: the byte of its next instruction, and how many are still to be carried out.
+pub(crate) struct Left {
+    pub(crate) at: usize,
+    pub(crate) more: usize,
+}
+
+// ANDs, as long as one follows another: a loop of its own, since the next kind is then known in advance.
+fn and_run(file: &[u8], from: usize, steps: usize, registers: &mut [u64]) -> Left
+    requires { ⌜ Known steps (length (now registers)) (drop from (now file)) ⌝ }
+    ensures { λ r. ⌜ Along (now (file .entry)) steps from (now (registers .entry)) (r .more) (r .at) (now (registers .exit)) ⌝ }
+{
+    let mut more = steps;
+    let mut at = from;
+    while 0 < more && field_at(file, at + 2) == 5 {
+        and_at(file, at, registers);
+        at += 10;
+        more -= 1;
+    }
+    Left { at, more }
+}
+
+// ORs, as long as one follows another.
+fn or_run(file: &[u8], from: usize, steps: usize, registers: &mut [u64]) -> Left
+    requires { ⌜ Known steps (length (now registers)) (drop from (now file)) ⌝ }
+    ensures { λ r. ⌜ Along (now (file .entry)) steps from (now (registers .entry)) (r .more) (r .at) (now (registers .exit)) ⌝ }
+{
+    let mut more = steps;
+    let mut at = from;
+    while 0 < more && field_at(file, at + 2) == 6 {
+        or_at(file, at, registers);
+        at += 10;
+        more -= 1;
+    }
+    Left { at, more }
+}
+
+// So many instructions from byte `from` on.
+pub(crate) fn run_from(
+    file: &[u8],
+    from: usize,
+    steps: usize,
+    inputs: &[u64],
+    registers: &mut [u64],
+    outputs: &mut [u64],
+)
+    requires { ⌜ Formed steps (length (now registers)) (length (now inputs)) (length (now outputs)) (drop from (now file)) ⌝ }
+    ensures { λ _. ⌜ Carried (now (file .entry)) from steps (now (inputs .entry)) (now (registers .entry)) (now (outputs .entry)) (now (registers .exit)) (now (outputs .exit)) ⌝ }
+{
+    let mut more = steps;
+    let mut at = from;
+    while 0 < more {
+        at = step_at(file, at, inputs, registers, outputs);
+        let a = and_run(file, at, more - 1, registers);
+        let o = or_run(file, a.at, a.more, registers);
+        at = o.at;
+        more = o.more;
+    }
+}

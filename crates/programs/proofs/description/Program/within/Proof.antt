@@ -1,0 +1,19 @@
+-- `programs::Program::within` meets its contract. Assumes nothing.
+use borrow.Author.Needs.{needs}
+use Rattle.programs.proofs.description.Program.within.Statement.{statement}
+use Rattle.programs.proofs.description.Program.within.Tie as tie
+
+among-requires : tie.Need-among-requires
+among-requires c κs = search needs
+
+among-requires-2 : tie.Need-among-requires-2
+among-requires-2 c κs = search needs
+
+among-requires-3 : tie.Need-among-requires-3
+among-requires-3 c κs = search needs
+
+returns : tie.Need-returns
+returns c = cc
+
+pub within-spec : {M : Type 1} → statement M
+within-spec = tie.close (tie.spec among-requires among-requires-2 among-requires-3 returns)

@@ -1,0 +1,26 @@
+-- `programs::put_five` meets its contract: field after field. Assumes nothing.
+use borrow.Author.Needs.{needs}
+use Rattle.programs.specs.Records.{field-after}
+use native.Mathlib.Omega.{arith}
+use mathlib.Core.List.{[], _∷_}
+use mathlib.Core.Path.{_≡_, refl}
+use Rattle.programs.proofs.fields.put_five.Statement.{statement}
+use Rattle.programs.proofs.fields.put_five.Tie as tie
+
+put-four-requires : tie.Need-put-four-requires
+put-four-requires c κs = search needs
+
+add-put : tie.Need-add-put
+add-put c = search needs
+
+put-requires : tie.Need-put-requires
+put-requires c κs = search needs
+
+same-length : tie.Need-same-length
+same-length c = search needs
+
+returns : tie.Need-returns
+returns c = field-after _ _ (c .before .before .before .before .before .before .before .before .before .args .x ∷ c .before .before .before .before .before .before .before .before .before .args .y ∷ c .before .before .before .before .before .before .before .before .before .args .z ∷ c .before .before .before .before .before .before .before .before .before .args .u ∷ []) _ _ _ _ refl (omega arith) (c .before .before .before .before .before .before .put-four .ensures) (c .before .before .put .ensures)
+
+pub put-five-spec : {M : Type 1} → statement M
+put-five-spec = tie.close (tie.spec put-four-requires add-put put-requires same-length returns)

@@ -1,0 +1,30 @@
+-- `programs::write_header` meets its contract. Assumes nothing.
+use borrow.Author.Needs.{needs}
+use Rattle.programs.specs.Reading.{header-not, header-no-room, header-room}
+use mathlib.Core.Path.{_≡_, sym, _∙_}
+use borrow.Author.Tests.{not-true, not-false}
+use Rattle.programs.proofs.headers.write_header.Statement.{statement}
+use Rattle.programs.proofs.headers.write_header.Tie as tie
+
+within-requires : tie.Need-within-requires
+within-requires c κs = search needs
+
+returns : tie.Need-returns
+returns c = header-not _ _ (sym (c .before .within .ensures) ∙ not-true _ (c .if1 .taken))
+
+returns-2 : tie.Need-returns-2
+returns-2 c = header-no-room _ _ (sym (c .before .before .within .ensures) ∙ not-false _ (c .before .if1 .left)) (c .if2 .taken)
+
+store-header-requires : tie.Need-store-header-requires
+store-header-requires c κs = (sym (c .before .before .before .within .ensures) ∙ not-false _ (c .before .before .if1 .left), search needs)
+
+same-length : tie.Need-same-length
+same-length c = search needs
+
+returns-3 : tie.Need-returns-3
+returns-3 c = header-room _ _ _ (sym (c .before .before .before .before .before .before .within .ensures) ∙ not-false _ (c .before .before .before .before .before .if1 .left)) (c .before .before .before .before .if2 .left) (c .before .before .store-header .ensures)
+
+pub write-header-spec : {M : Type 1} → statement M
+write-header-spec =
+    tie.close
+    (tie.spec within-requires returns returns-2 store-header-requires same-length returns-3)

@@ -1,0 +1,61 @@
+-- 01, "Files": the header of a program, its bytes, and reading one at the front of a file. Assumes nothing.
+use Prim.Native.Nat.{ℕ, _+_, _*_, _/_, _%_}
+use mathlib.Core.Bool.{Bool, not, cond, _&&_}
+use mathlib.Core.List.{List, [], _∷_, _++_}
+use lib.Dec.{eqb, ltb, leb}
+use lib.ListN.{length}
+use Rattle.laws.specs.Lay.{layAt}
+use Rattle.laws.specs.Outcome.{Outcome, refused, gives, refuse, _>>_, _>>=_}
+use Rattle.files.specs.Fields.{fieldOf}
+use Rattle.files.specs.Refusal.{numberOf}
+use Rattle.programs.specs.Limits.{within}
+use Rattle.programs.specs.Records.{recordBytes}
+use Rattle.programs.specs.Instructions.{instructionBytes}
+use Rattle.programs.specs.declared.description.Program.{Program}
+use Rattle.programs.specs.declared.headers.Checked.{Checked}
+use Rattle.programs.specs.declared.headers.Checked.the-variants as Checked
+use Rattle.programs.specs.declared.description.Instruction.{Instruction}
+
+-- the length and the kind of a program's header
+abbrev pub header-length : ℕ
+header-length = 14
+
+abbrev pub header-kind : ℕ
+header-kind = 16
+
+-- a header: length, kind, registers, inputs, outputs, and the 32-bit count, its low field first
+unfoldable pub headerBytes : Program → List ℕ
+headerBytes p =
+    recordBytes (header-length ∷ header-kind ∷ p .registers ∷ p .inputs ∷ p .outputs ∷ p .count % 65536 ∷ p .count / 65536 ∷ [])
+
+-- the numbers that a header's fields say
+unfoldable pub numbersOf : List ℕ → Program
+numbersOf file =
+    record { registers = fieldOf file 4; inputs = fieldOf file 6; outputs = fieldOf file 8; count = fieldOf file 10 + 65536 * fieldOf file 12 }
+
+-- the header at the front of a file: refusals 1 to 4
+unfoldable pub headerOf : List ℕ → Outcome Program
+headerOf file = do
+  refuse 1 (ltb (length file) header-length)
+  refuse 2 (not (eqb (fieldOf file 2) header-kind))
+  refuse 3 (not (within (numbersOf file)))
+  refuse 4 (not (eqb (fieldOf file 0) header-length))
+  gives (numbersOf file)
+
+-- a header written at the front of a buffer, where it is within the limits and has room
+unfoldable pub headerPlaced : Program → List ℕ → List ℕ
+headerPlaced p buf = cond (within p && leb header-length (length buf)) (layAt 0 (headerBytes p) buf) buf
+
+-- the bytes of instructions, one after another
+unfoldable pub codeBytes : List Instruction → List ℕ
+codeBytes [] = []
+codeBytes (i ∷ is) = instructionBytes i ++ codeBytes is
+
+-- a program file: the header, then the instructions
+unfoldable pub programFile : Program → List Instruction → List ℕ
+programFile p is = headerBytes p ++ codeBytes is
+
+-- ---- the answer's cases in 01's numbers and values
+abbrev pub checked : Checked → Outcome Program
+checked (Checked.Refused why) = refused (numberOf why)
+checked (Checked.Program p) = gives p

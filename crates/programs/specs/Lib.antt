@@ -1,0 +1,7 @@
+-- The description of a program, in the order in which one rests on another.
+pub mod Limits
+pub mod Records
+pub mod Instructions
+pub mod Header
+pub mod Reading
+pub mod Inverse

@@ -1,0 +1,91 @@
+// What a program is made of, within which limits, and what a check of one keeps (01, "Files").
+ghost use mathlib.Core.Path.{_≡_};
+ghost use Rattle.programs.specs.Limits.{among, unset, unwritten, within};
+ghost use Rattle.programs.specs.Instructions.{lengthOf};
+
+// The numbers of a program's header.
+pub struct Program {
+    pub registers: usize,
+    pub inputs: usize,
+    pub outputs: usize,
+    pub count: u32,
+}
+
+// The seven instructions: the register to write or the output to set, then what is read.
+pub enum Instruction {
+    Ones(u16),
+    Zero(u16),
+    Input(u16, u16),
+    Not(u16, u16),
+    And(u16, u16, u16),
+    Or(u16, u16, u16),
+    Output(u16, u16),
+}
+
+// Whether a number is 1 to `most`.
+fn among(most: usize, x: usize) -> bool
+    ensures { λ r. ⌜ r ≡ among most x ⌝ }
+{
+    (1 <= x) & (x <= most)
+}
+
+impl Program {
+    // The most registers, inputs, outputs and instructions.
+    pub const REGISTERS: usize = 1024;
+
+    pub const INPUTS: usize = 128;
+
+    pub const OUTPUTS: usize = 8;
+
+    pub const INSTRUCTIONS: u32 = 131_072;
+
+    // The length of a header, and its kind.
+    pub const HEADER: usize = 14;
+
+    pub const KIND: usize = 16;
+
+    // Whether the numbers are within the limits.
+    pub fn within(self) -> bool
+        ensures { λ r. ⌜ r ≡ within self ⌝ }
+    {
+        among(Program::REGISTERS, self.registers)
+            & among(Program::INPUTS, self.inputs)
+            & among(Program::OUTPUTS, self.outputs)
+            & (self.count <= Program::INSTRUCTIONS)
+    }
+}
+
+impl Instruction {
+    // The bytes that the instruction takes.
+    pub fn length(self) -> usize
+        ensures { λ r. ⌜ r ≡ lengthOf self ⌝ }
+    {
+        match self {
+            Instruction::Ones(_) => 6,
+            Instruction::Zero(_) => 6,
+            Instruction::Input(_, _) => 8,
+            Instruction::Not(_, _) => 8,
+            Instruction::And(_, _, _) => 10,
+            Instruction::Or(_, _, _) => 10,
+            Instruction::Output(_, _) => 8,
+        }
+    }
+}
+
+// What a check has seen of a program: the registers that instructions wrote, and the outputs that they set.
+pub struct Seen {
+    pub written: [bool; Program::REGISTERS],
+    pub set: [bool; Program::OUTPUTS],
+}
+
+impl Seen {
+    // Nothing seen yet.
+    pub fn fresh() -> Seen
+        ensures { λ r. ⌜ (r .written ≡ unwritten) × (r .set ≡ unset) ⌝ }
+    {
+        Seen {
+            written: [false; Program::REGISTERS],
+            set: [false; Program::OUTPUTS],
+        }
+    }
+}

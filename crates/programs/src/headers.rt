@@ -1,0 +1,81 @@
+// The header of a program: reading one and writing one (01, "Files").
+ghost use mathlib.Core.Path.{_≡_};
+ghost use mathlib.Core.Bool.{true, _&&_};
+ghost use Prim.Native.Nat.{_≤_};
+ghost use lib.Dec.{leb};
+ghost use lib.ListN.{length};
+ghost use Rattle.laws.specs.Lay.{layAt};
+ghost use Rattle.programs.specs.Limits.{within};
+ghost use Rattle.programs.specs.Header.{checked, header-length, headerBytes, headerOf, headerPlaced};
+use crate::description::Program;
+use crate::fields::put;
+use crate::fields::put_five;
+use files::Refusal;
+use files::field;
+
+// A refusal, or a program's header.
+pub enum Checked {
+    Refused(Refusal),
+    Program(Program),
+}
+
+// The header at the front of a file: refusals 1 to 4.
+pub fn read_header(file: &[u8]) -> Checked
+    ensures { λ r. ⌜ checked r ≡ headerOf (now (file .entry)) ⌝ }
+{
+    if file.len() < Program::HEADER {
+        return Checked::Refused(Refusal::Short);
+    }
+    if field(file, 2) != Program::KIND {
+        return Checked::Refused(Refusal::Kind);
+    }
+    let p = Program {
+        registers: field(file, 4),
+        inputs: field(file, 6),
+        outputs: field(file, 8),
+        count: (field(file, 10) + 65536 * field(file, 12)) as u32,
+    };
+    if !p.within() {
+        return Checked::Refused(Refusal::Size);
+    }
+    if field(file, 0) != Program::HEADER {
+        return Checked::Refused(Refusal::Length);
+    }
+    Checked::Program(p)
+}
+
+// Stores a header that is within the limits at the front of `out`.
+fn store_header(p: Program, out: &mut [u8])
+    requires { ⌜ (within p ≡ true) × (header-length ≤ length (now out)) ⌝ }
+    ensures { λ _. ⌜ now (out .exit) ≡ layAt 0 (headerBytes p) (now (out .entry)) ⌝ }
+{
+    let r = p.registers as u16;
+    let i = p.inputs as u16;
+    let o = p.outputs as u16;
+    put_five(
+        out,
+        0,
+        Program::HEADER as u16,
+        Program::KIND as u16,
+        r,
+        i,
+        o,
+    );
+    put(out, 10, (p.count % 65536) as u16);
+    put(out, 12, (p.count / 65536) as u16);
+}
+
+// Writes a header at the front of `out`, or nothing where it is outside the limits or has no room. Answers whether it is written.
+pub fn write_header(p: Program, out: &mut [u8]) -> bool
+    ensures { λ r. ⌜ r ≡ (within p && leb header-length (length (now (out .entry)))) ⌝ }
+    ensures { λ r. ⌜ now (out .exit) ≡ headerPlaced p (now (out .entry)) ⌝ }
+{
+    if !p.within() {
+        return false;
+    }
+    if out.len() < Program::HEADER {
+        return false;
+    }
+    store_header(p, out);
+    true
+}

@@ -1,0 +1,15 @@
+// The description of a Boolean program: its limits, its header, its instructions and their bytes (01, "Files").
+mod description;
+mod fields;
+mod headers;
+mod instructions;
+
+pub use description::Instruction;
+pub use description::Program;
+pub use description::Seen;
+pub use headers::Checked;
+pub use headers::read_header;
+pub use headers::write_header;
+pub use instructions::Decoded;
+pub use instructions::decode;
+pub use instructions::encode;
