@@ -10,3 +10,4 @@ pub mod Answers
 pub mod Accepting
 pub mod Encoding
 pub mod Resuming
+pub mod LaneLaw

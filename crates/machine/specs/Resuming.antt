@@ -1,17 +1,18 @@
--- 01, "Runs, words, samples": a stop resumed as it was left ends as the unbroken run, after any number of stops; when a run stops, and that its
--- numbers depend on no word. Assumes nothing.
-use Prim.Native.Nat.{ℕ, zero, suc, _+_, _-_, _^_, _≤_, _<_, min}
-use mathlib.Core.Path.{_≡_, refl, sym, ap, _∙_, subst}
-use mathlib.Core.Bool.{Bool, true, false}
+-- 01, "Runs, words, samples": a stop resumed as it was left ends as the unbroken run, after any number of stops; a run's numbers depend on no
+-- word; when a run stops. Assumes nothing.
+use Prim.Native.Nat.{ℕ, _+_, _-_, _^_, _≤_, _<_, min}
+use mathlib.Core.Path.{_≡_, refl, sym, ap, _∙_}
+use mathlib.Core.Bool.{true, false}
 use mathlib.Core.List.{List, [], _∷_, _++_}
 use mathlib.Core.Logic.{_↔_}
+use native.Mathlib.Nat.{zero-add}
 use native.Mathlib.Omega.{arith}
 use borrow.Author.Tests.{le-ltb, ltb-false, eqb-true, eqb-false, eq-eqb, ne-eqb}
-use lib.Dec.{eqb, ltb}
+use lib.Dec.{ltb}
 use lib.ListN.{length, take, drop, replicate, length-set, length-replicate}
-use lib.Seq.{drop-append-seam, take-add, drop-drop, take-at, length-take-le}
+use lib.Seq.{take-add, take-all, take-at, drop-drop, drop-append-seam, length-take-le}
 use Rattle.laws.specs.Lay.{lay, length-lay}
-use Rattle.laws.specs.Outcome.{Outcome, refused, gives, refuse, _>>_, _>>=_, mapped, passed, bound, gives-inj, mapped-gives}
+use Rattle.laws.specs.Outcome.{Outcome, refused, gives, refuse, _>>_, _>>=_, mapped, laid, passed, bound, gives-inj, mapped-gives}
 use Rattle.programs.specs.Reading.{within-means}
 use Rattle.programs.specs.declared.description.Program.{Program}
 use Rattle.programs.specs.declared.description.Instruction.{Instruction}
@@ -22,17 +23,17 @@ use Rattle.machine.specs.Runs.{Ended, steps, answerOf, runOf, roomFor, s
 use Rattle.machine.specs.Encoding.{accepted-sound}
 use Rattle.machine.specs.declared.runs.Run.{Run}
 
--- ---- two runs as one
+-- ---- two runs taken as one
 -- the largest budget
 abbrev pub most-budget : ℕ
 most-budget = 2 ^ 32 - 1
 
--- budgets together: their sum, or the largest budget where the sum is larger
+-- both budgets together, 2^32 - 1 where their sum is larger
 abbrev pub together : ℕ → ℕ → ℕ
 together a b = min (a + b) most-budget
 
--- the answer of a run and that of its resume as one answer: the end of the resume, both counts, and both budgets together. The budget in an
--- answer is that of its own call
+-- the answer of a run and that of its resume, as the answer of one run: it ends where the resume ends, and the counts add up. The budget in an
+-- answer is that of its own call, so it is both budgets together here
 abbrev pub joined : Run → Run → Run
 joined a b =
     record { finished = b .finished; position = b .position; count = a .count + b .count; budget = together (a .budget) (b .budget) }
@@ -40,13 +41,22 @@ joined a b =
 abbrev pub continued : {A : Type 0} → Ended A → Ended A → Ended A
 continued a b = record { answer = joined (a .answer) (b .answer); state = b .state }
 
--- what a caller holds after a call: the answer, and the registers and outputs that it lent
+-- a run from the beginning that carries out all instructions of an accepted program
+abbrev pub wholeRun : {A : Type 0} → Gates A → Code → List A → ℕ → State A → Ended A
+wholeRun G c inputs budget s =
+    record {
+      answer = record { finished = true; position = c .program .count; count = c .program .count; budget = budget };
+      state = exec G inputs (c .instructions) s;
+    }
+
+-- ---- calls, by what the caller holds after them
+-- the answer, and the registers and outputs that were lent
 pub record After (A : Type 0) : Type 0 where
   pub answer : Run
   pub registers : List A
   pub outputs : List A
 
--- the words of the state lie at the front of what was lent
+-- a run's state lies at the front of what was lent, as the contracts of start and resume say
 abbrev pub leaves : {A : Type 0} → List A → List A → Ended A → After A
 leaves registers outputs e =
     record { answer = e .answer; registers = lay (e .state .registers) registers; outputs = lay (e .state .outputs) outputs }
@@ -58,13 +68,13 @@ module _ {A : Type 0} (G : Gates A) (file : List ℕ) (inputs : List A) where
   abbrev pub resumed : List A → List A → ℕ → ℕ → Outcome (After A)
   resumed registers outputs position budget = mapped (leaves registers outputs) (resumeOn G file inputs registers outputs position budget)
 
-  -- a resume as a call left position, registers and outputs, the two taken as one call
+  -- a resume at the position and on the registers and outputs that a call left, the two taken as one call
   abbrev pub again : After A → ℕ → Outcome (After A)
   again l budget =
       mapped (λ m. record { answer = joined (l .answer) (m .answer); registers = m .registers; outputs = m .outputs })
       (resumed (l .registers) (l .outputs) (l .answer .position) budget)
 
-  -- one resume after another, each as the one before left it
+  -- one resume after another, each as the call before left it
   unfoldable pub onward : After A → List ℕ → Outcome (After A)
   onward l [] = gives l
   onward l (b ∷ bs) = again l b >>= (λ m. onward m bs)
@@ -73,6 +83,78 @@ unfoldable pub total : List ℕ → ℕ
 total [] = 0
 total (b ∷ bs) = b + total bs
 
+-- ---- what is asked of lent words, and what of an answer
+-- at least as many words as the header says
+pub record Room {A : Type 0} (p : Program) (inputs registers outputs : List A) : Type 0 where
+  pub for-inputs : p .inputs ≤ length inputs
+  pub for-registers : p .registers ≤ length registers
+  pub for-outputs : p .outputs ≤ length outputs
+
+-- enough words for the program in a file, if it is accepted
+abbrev pub Enough : {A : Type 0} → List ℕ → List A → List A → List A → Type 0
+Enough file inputs registers outputs = (c : Code) → checkOf file ≡ gives c → Room (c .program) inputs registers outputs
+
+-- 01's rules for the answer of a run from a position on, in a program of so many instructions
+pub record Obeys (position budget count : ℕ) (r : Run) : Type 0 where
+  pub own-budget : r .budget ≡ budget
+  pub moved : r .position ≡ position + r .count
+  pub afforded : r .count ≤ budget
+  -- stopped when the budget is used up and instructions remain, and in no other case
+  pub stopped : (r .finished ≡ false) ↔ ((r .count ≡ budget) × (r .position < count))
+  -- finished with the instruction count as position
+  pub ended : (r .finished ≡ true) ↔ (r .position ≡ count)
+
+-- ---- outcomes
+module _ {A B : Type 0} where
+  bind-eq : (o : Outcome A) (k h : A → Outcome B) → ((a : A) → o ≡ gives a → k a ≡ h a) → (o >>= k) ≡ (o >>= h)
+  bind-eq (refused n) k h e = refl
+  bind-eq (gives a) k h e = e a refl
+
+  mapped-bind : {C : Type 0} (o : Outcome A) (k : A → Outcome B) (h : A → Outcome C) (f : C → B) → ((a : A) → k a ≡ mapped f (h a)) →
+      (o >>= k) ≡ mapped f (o >>= h)
+  mapped-bind (refused n) k h f e = refl
+  mapped-bind (gives a) k h f e = e a
+
+  mapped-then : (u : Outcome (Unit {0})) (k : Outcome B) (h : Outcome A) (f : A → B) → k ≡ mapped f h → (u >> k) ≡ mapped f (u >> h)
+  mapped-then (refused n) k h f e = refl
+  mapped-then (gives a) k h f e = e
+
+  pub mapped-mapped : {C : Type 0} (f : A → B) (g : B → C) (h : A → C) (o : Outcome A) → ((a : A) → g (f a) ≡ h a) →
+      mapped g (mapped f o) ≡ mapped h o
+  mapped-mapped f g h (refused n) e = refl
+  mapped-mapped f g h (gives a) e = ap gives (e a)
+
+  bind-bind : {C : Type 0} (o : Outcome A) (k : A → Outcome B) (h : B → Outcome C) → (o >>= (λ a. k a >>= h)) ≡ ((o >>= k) >>= h)
+  bind-bind (refused n) k h = refl
+  bind-bind (gives a) k h = refl
+
+bind-gives : {A : Type 0} (o : Outcome A) → (o >>= (λ a. gives a)) ≡ o
+bind-gives (refused n) = refl
+bind-gives (gives a) = refl
+
+gone-on : {B : Type 0} (u : Outcome (Unit {0})) (k : Outcome B) (b : B) → (u >> k) ≡ gives b → (u ≡ gives tt) × (k ≡ gives b)
+gone-on (refused n) k b e = absurd (let z : _≡_ {A = ℕ} 0 1 = cc in omega arith)
+gone-on (gives u) k b e = (refl, e)
+
+-- what holds of each admitted program, held of the outcome
+carry : {B C : Type 0} (f g : C → B) (k : B → Outcome B) (o : Outcome C) → ((c : C) → o ≡ gives c → k (f c) ≡ gives (g c)) → (e : B) →
+    mapped f o ≡ gives e → k e ≡ mapped g o
+carry f g k (refused n) h e q = absurd (let z : _≡_ {A = ℕ} 0 1 = cc in omega arith)
+carry f g k (gives c) h e q = rw (← gives-inj q) (h c refl)
+
+carry-all : {A B C : Type 0} (f g : C → B) (l : B → A) (k : A → Outcome A) (o : Outcome C) →
+    ((c : C) → o ≡ gives c → k (l (f c)) ≡ gives (l (g c))) → (mapped l (mapped f o) >>= k) ≡ mapped l (mapped g o)
+carry-all f g l k (refused n) h = refl
+carry-all f g l k (gives c) h = h c refl
+
+-- what the contracts of start and resume say of a call that gives an answer, as what the caller holds
+pub caller-holds : {A : Type 0} (o : Outcome (Ended A)) (answer : Run) (registers outputs registers′ outputs′ : List A) →
+    gives answer ≡ mapped (λ e. e .answer) o → registers′ ≡ lay (laid (λ e. e .state .registers) o) registers →
+    outputs′ ≡ lay (laid (λ e. e .state .outputs) o) outputs →
+    mapped (leaves registers outputs) o ≡ gives (record { answer = answer; registers = registers′; outputs = outputs′ })
+caller-holds (refused n) answer registers outputs registers′ outputs′ e r q = absurd (let z : _≡_ {A = ℕ} 0 1 = cc in omega arith)
+caller-holds (gives x) answer registers outputs registers′ outputs′ e r q = rw (gives-inj e, r, q)
+
 -- ---- instructions one after another
 module _ {A : Type 0} (G : Gates A) (inputs : List A) where
   pub exec-append : (is js : List Instruction) (s : State A) → exec G inputs (is ++ js) s ≡ exec G inputs js (exec G inputs is s)
@@ -80,7 +162,7 @@ module _ {A : Type 0} (G : Gates A) (inputs : List A) where
   exec-append [] js s = refl
   exec-append (i ∷ is) js s = exec-append is js (step G inputs i s)
 
-  step-long : (i : Instruction) (s : State A) →
+  pub step-long : (i : Instruction) (s : State A) →
       (length (step G inputs i s .registers) ≡ length (s .registers)) × (length (step G inputs i s .outputs) ≡ length (s .outputs))
   step-long (Ones to) s = (length-set (s .registers) to _, refl)
   step-long (Zero to) s = (length-set (s .registers) to _, refl)
@@ -100,7 +182,7 @@ module _ {A : Type 0} (G : Gates A) (inputs : List A) where
       let m = step-long i s in
       (l .0 ∙ m .0, l .1 ∙ m .1)
 
--- ---- runs
+-- ---- runs of a list of instructions
 steps-join : (a b position count : ℕ) → count ≤ most-budget →
     steps a position count + steps b (position + steps a position count) count ≡ steps (together a b) position count
 steps-join a b position count h = omega arith
@@ -109,49 +191,43 @@ end-join : (a b position count : ℕ) → count ≤ most-budget →
     position + steps a position count + steps b (position + steps a position count) count ≡ position + steps (together a b) position count
 end-join a b position count h = omega (arith, steps-join a b position count h)
 
-module _ {A : Type 0} (G : Gates A) (is : List Instruction) (inputs : List A) (few : length is ≤ most-budget) where
-  -- from any position: a run, and a second one from where it ended, are one run on both budgets
-  pub run-continued : (position a b : ℕ) (s : State A) →
+module _ {A : Type 0} (G : Gates A) (is : List Instruction) (inputs : List A) where
+  -- from any position: a run, and a second one from where it ended, are one run on both budgets together
+  pub run-continued : length is ≤ most-budget → (position a b : ℕ) (s : State A) →
       let first : Ended A = runOf G is inputs position a s in
       continued first (runOf G is inputs (first .answer .position) b (first .state)) ≡ runOf G is inputs position (together a b) s
   unfolding runOf
-  run-continued position a b s =
+  run-continued few position a b s =
       let n : ℕ = length is in
       let x : ℕ = steps a position n in
       let y : ℕ = steps b (position + x) n in
-      let carried : exec G inputs (take y (drop (position + x) is)) (exec G inputs (take x (drop position is)) s) ≡ exec G inputs (take (x + y) (drop position is)) s =
+      let carried : exec G inputs (take y (drop (position + x) is)) (exec G inputs (take x (drop position is)) s) ≡
+      exec G inputs (take (x + y) (drop position is)) s =
       rw (take-add x y (drop position is), drop-drop x position is)
       (sym (exec-append G inputs (take x (drop position is)) (take y (drop (position + x) is)) s)) in
       rw (carried, steps-join a b position n few, end-join a b position n few)
 
--- ---- what the checks before a run say
--- the lent words are as many as the header says
-pub record Room {A : Type 0} (p : Program) (inputs registers outputs : List A) : Type 0 where
-  pub for-inputs : p .inputs ≤ length inputs
-  pub for-registers : p .registers ≤ length registers
-  pub for-outputs : p .outputs ≤ length outputs
+  -- a budget for all instructions
+  pub run-whole : (budget : ℕ) (s : State A) → length is ≤ budget →
+      runOf G is inputs 0 budget s ≡
+      record {
+        answer = record { finished = true; position = length is; count = length is; budget = budget };
+        state = exec G inputs is s;
+      }
+  unfolding runOf
+  run-whole budget s h =
+      let all : steps budget 0 (length is) ≡ length is = omega arith in
+      rw (all, zero-add (length is), eq-eqb (length is) (length is) refl, take-all (length is) is (omega arith))
 
--- a state has as many words as the header says
+  run-before-end : (position budget : ℕ) (s : State A) → position ≤ length is → runOf G is inputs position budget s .answer .position ≤ length is
+  unfolding runOf
+  run-before-end position budget s h = omega arith
+
+-- ---- what the checks before a run say
+-- a state of as many words as the header says
 pub record Sized {A : Type 0} (p : Program) (s : State A) : Type 0 where
   pub of-registers : length (s .registers) ≡ p .registers
   pub of-outputs : length (s .outputs) ≡ p .outputs
-
-mapped-bind : {A B C : Type 0} (o : Outcome A) (k : A → Outcome B) (h : A → Outcome C) (f : C → B) → ((a : A) → k a ≡ mapped f (h a)) →
-    (o >>= k) ≡ mapped f (o >>= h)
-mapped-bind (refused n) k h f e = refl
-mapped-bind (gives a) k h f e = e a
-
-mapped-then : {B C : Type 0} (u : Outcome (Unit {0})) (k : Outcome B) (h : Outcome C) (f : C → B) → k ≡ mapped f h → (u >> k) ≡ mapped f (u >> h)
-mapped-then (refused n) k h f e = refl
-mapped-then (gives a) k h f e = e
-
-gone-on : {B : Type 0} (u : Outcome (Unit {0})) (k : Outcome B) (b : B) → (u >> k) ≡ gives b → (u ≡ gives tt) × (k ≡ gives b)
-gone-on (refused n) k b e = absurd (let z : _≡_ {A = ℕ} 0 1 = cc in omega arith)
-gone-on (gives u) k b e = (refl, e)
-
-bind-eq : {A B : Type 0} (o : Outcome A) (k h : A → Outcome B) → ((a : A) → o ≡ gives a → k a ≡ h a) → (o >>= k) ≡ (o >>= h)
-bind-eq (refused n) k h e = refl
-bind-eq (gives a) k h e = e a refl
 
 room-gives : {A : Type 0} (G : Gates A) (p : Program) (inputs registers outputs : List A) → Room p inputs registers outputs →
     roomFor G p inputs registers outputs ≡ gives tt
@@ -162,6 +238,11 @@ room-gives G p inputs registers outputs r =
       le-ltb (length outputs) (p .outputs) (r .for-outputs),
     )
 
+pub few-instructions : (file : List ℕ) (c : Code) → checkOf file ≡ gives c → length (c .instructions) ≤ most-budget
+few-instructions file c e =
+    let s = accepted-sound file c e in
+    omega (arith, s .counted, within-means (c .program) (s .limits) .few-instructions)
+
 module _ {A : Type 0} (G : Gates A) where
   -- the states from which a start and a resume run
   abbrev pub cleared : Program → State A
@@ -170,7 +251,7 @@ module _ {A : Type 0} (G : Gates A) where
   abbrev pub lent : Program → List A → List A → State A
   lent p registers outputs = record { registers = take (p .registers) registers; outputs = take (p .outputs) outputs }
 
-  -- the program that a call runs: its refusals are those of the program, 12 and 13
+  -- the program that a call runs; it is refused by the program's own refusals, by 12 and by 13
   unfoldable pub admitted : List ℕ → List A → List A → List A → ℕ → Outcome Code
   admitted file inputs registers outputs position = do
     c ← checkOf file
@@ -180,33 +261,36 @@ module _ {A : Type 0} (G : Gates A) where
 
   module _ (file : List ℕ) (inputs registers outputs : List A) where
     -- a start and a resume are runs of the admitted program
-    abbrev startRun : ℕ → Code → Ended A
+    abbrev pub startRun : ℕ → Code → Ended A
     startRun budget c = runOf G (c .instructions) inputs 0 budget (cleared (c .program))
 
-    abbrev resumeRun : ℕ → ℕ → Code → Ended A
+    abbrev pub resumeRun : ℕ → ℕ → Code → Ended A
     resumeRun position budget c = runOf G (c .instructions) inputs position budget (lent (c .program) registers outputs)
 
-    pub start-is : (budget : ℕ) → startOn G file inputs registers outputs budget ≡ mapped (startRun budget) (admitted file inputs registers outputs 0)
+    pub start-is : (budget : ℕ) →
+        startOn G file inputs registers outputs budget ≡ mapped (startRun budget) (admitted file inputs registers outputs 0)
     unfolding startOn admitted
     start-is budget =
         mapped-bind (checkOf file) _ _ (startRun budget)
-        (λ c. rw (le-ltb (length (c .instructions)) 0 (omega arith)) (mapped-then (roomFor G (c .program) inputs registers outputs) _ _ (startRun budget) refl))
+        (λ c. rw (le-ltb (length (c .instructions)) 0 (omega arith))
+        (mapped-then (roomFor G (c .program) inputs registers outputs) _ _ (startRun budget) refl))
 
     pub resume-is : (position budget : ℕ) →
-        resumeOn G file inputs registers outputs position budget ≡ mapped (resumeRun position budget) (admitted file inputs registers outputs position)
+        resumeOn G file inputs registers outputs position budget ≡
+        mapped (resumeRun position budget) (admitted file inputs registers outputs position)
     unfolding resumeOn admitted
     resume-is position budget =
         mapped-bind (checkOf file) _ _ (resumeRun position budget)
         (λ c. mapped-then (refuse 12 (ltb (length (c .instructions)) position)) _ _ (resumeRun position budget)
         (mapped-then (roomFor G (c .program) inputs registers outputs) _ _ (resumeRun position budget) refl))
 
-    -- who is admitted
-    pub record Admitted (position : ℕ) (c : Code) : Type 0 where
+    -- what an admitted program is
+    pub record Runnable (position : ℕ) (c : Code) : Type 0 where
       pub accepted : checkOf file ≡ gives c
       pub before-end : position ≤ length (c .instructions)
       pub room : Room (c .program) inputs registers outputs
 
-    pub admitted-says : (position : ℕ) (c : Code) → admitted file inputs registers outputs position ≡ gives c → Admitted position c
+    pub admitted-says : (position : ℕ) (c : Code) → admitted file inputs registers outputs position ≡ gives c → Runnable position c
     unfolding admitted
     admitted-says position c e =
         let c1 = bound (checkOf file) _ c e in
@@ -228,7 +312,7 @@ module _ {A : Type 0} (G : Gates A) where
               };
         })
 
-    pub admitted-gives : (position : ℕ) (c : Code) → Admitted position c → admitted file inputs registers outputs position ≡ gives c
+    pub admitted-gives : (position : ℕ) (c : Code) → Runnable position c → admitted file inputs registers outputs position ≡ gives c
     unfolding admitted
     admitted-gives position c a =
         rw (
@@ -237,11 +321,37 @@ module _ {A : Type 0} (G : Gates A) where
           room-gives G (c .program) inputs registers outputs (a .room),
         )
 
-  -- ---- what a run leaves in lent buffers
-  sized-cleared : (p : Program) → Sized p (cleared p)
-  sized-cleared p = record { of-registers = length-replicate (p .registers) (G .zeros); of-outputs = length-replicate (p .outputs) (G .zeros) }
+    -- where the words are enough, they play no part
+    admitted-enough : (position : ℕ) → Enough file inputs registers outputs →
+        admitted file inputs registers outputs position ≡
+        (checkOf file >>= (λ c. refuse 12 (ltb (length (c .instructions)) position) >> gives c))
+    unfolding admitted
+    admitted-enough position enough =
+        bind-eq (checkOf file) _ _ (λ c e. rw (room-gives G (c .program) inputs registers outputs (enough c e)))
 
-  sized-lent : (p : Program) (inputs registers outputs : List A) → Room p inputs registers outputs → Sized p (lent p registers outputs)
+    -- with a budget for all its instructions an accepted program is carried out whole
+    module _ (budget : ℕ) (c : Code) (ok : checkOf file ≡ gives c) (room : Room (c .program) inputs registers outputs)
+        (enough : c .program .count ≤ budget) where
+      whole-is : (s : State A) → runOf G (c .instructions) inputs 0 budget s ≡ wholeRun G c inputs budget s
+      whole-is s =
+          let n : c .program .count ≡ length (c .instructions) = accepted-sound file c ok .counted in
+          rw n (run-whole G (c .instructions) inputs budget s (omega arith))
+
+      all-admitted : admitted file inputs registers outputs 0 ≡ gives c
+      all-admitted = admitted-gives 0 c (record { accepted = ok; before-end = omega arith; room = room })
+
+      pub start-whole : startOn G file inputs registers outputs budget ≡ gives (wholeRun G c inputs budget (cleared (c .program)))
+      start-whole = start-is budget ∙ rw all-admitted (ap gives (whole-is (cleared (c .program))))
+
+      pub resume-whole : resumeOn G file inputs registers outputs 0 budget ≡ gives (wholeRun G c inputs budget (lent (c .program) registers outputs))
+      resume-whole = resume-is 0 budget ∙ rw all-admitted (ap gives (whole-is (lent (c .program) registers outputs)))
+
+  -- ---- what a run leaves in lent buffers
+  pub sized-cleared : (p : Program) → Sized p (cleared p)
+  sized-cleared p =
+      record { of-registers = length-replicate (p .registers) (G .zeros); of-outputs = length-replicate (p .outputs) (G .zeros) }
+
+  pub sized-lent : (p : Program) (inputs registers outputs : List A) → Room p inputs registers outputs → Sized p (lent p registers outputs)
   sized-lent p inputs registers outputs r =
       record {
         of-registers = length-take-le (p .registers) registers (r .for-registers);
@@ -254,6 +364,10 @@ module _ {A : Type 0} (G : Gates A) where
   sized-run p is inputs position budget s z =
       let l = exec-long G inputs (take (steps budget position (length is)) (drop position is)) s in
       record { of-registers = l .0 ∙ z .of-registers; of-outputs = l .1 ∙ z .of-outputs }
+
+  lay-again : (xs ys buf : List A) → length xs ≡ length ys → lay ys (lay xs buf) ≡ lay ys buf
+  unfolding lay
+  lay-again xs ys buf e = ap (λ (l : List A). ys ++ l) (rw (← e) (drop-append-seam xs (drop (length xs) buf)))
 
   lent-laid : (p : Program) (s : State A) (registers outputs : List A) → Sized p s →
       lent p (lay (s .registers) registers) (lay (s .outputs) outputs) ≡ s
@@ -273,78 +387,62 @@ module _ {A : Type 0} (G : Gates A) where
         for-outputs = omega (arith, length-lay (s .outputs) outputs (omega (arith, z .of-outputs, r .for-outputs)), r .for-outputs);
       }
 
-  -- a resume on the words that a state left in lent buffers runs on from that state
-  resume-left : (file : List ℕ) (inputs registers outputs : List A) (c : Code) (s : State A) (position budget : ℕ) →
-      checkOf file ≡ gives c → position ≤ length (c .instructions) → Room (c .program) inputs registers outputs → Sized (c .program) s →
-      resumeOn G file inputs (lay (s .registers) registers) (lay (s .outputs) outputs) position budget ≡
-      gives (runOf G (c .instructions) inputs position budget s)
-  resume-left file inputs registers outputs c s position budget e h r z =
-      let rs : List A = lay (s .registers) registers in
-      let os : List A = lay (s .outputs) outputs in
-      let ok : admitted file inputs rs os position ≡ gives c =
-      admitted-gives file inputs rs os position c
-      (record { accepted = e; before-end = h; room = room-laid (c .program) s inputs registers outputs z r }) in
-      resume-is file inputs rs os position budget ∙ rw (ok, lent-laid (c .program) s registers outputs z)
+  module _ (file : List ℕ) (inputs registers outputs : List A) (c : Code) (ok : checkOf file ≡ gives c)
+      (room : Room (c .program) inputs registers outputs) where
+    -- a resume on the words that a state left in lent buffers runs on from that state
+    resume-left : (s : State A) (position budget : ℕ) → Sized (c .program) s → position ≤ length (c .instructions) →
+        resumeOn G file inputs (lay (s .registers) registers) (lay (s .outputs) outputs) position budget ≡
+        gives (runOf G (c .instructions) inputs position budget s)
+    resume-left s position budget z h =
+        let rs : List A = lay (s .registers) registers in
+        let os : List A = lay (s .outputs) outputs in
+        let here : admitted file inputs rs os position ≡ gives c =
+        admitted-gives file inputs rs os position c
+        (record { accepted = ok; before-end = h; room = room-laid (c .program) s inputs registers outputs z room }) in
+        resume-is file inputs rs os position budget ∙ rw (here, lent-laid (c .program) s registers outputs z)
 
-  run-before-end : (is : List Instruction) (inputs : List A) (position budget : ℕ) (s : State A) → position ≤ length is →
-      runOf G is inputs position budget s .answer .position ≤ length is
-  unfolding runOf
-  run-before-end is inputs position budget s h = omega arith
+    module _ (s : State A) (sized : Sized (c .program) s) (position : ℕ) (h : position ≤ length (c .instructions)) (a b : ℕ) where
+      abbrev first : Ended A
+      first = runOf G (c .instructions) inputs position a s
 
-  few-instructions : (file : List ℕ) (c : Code) → checkOf file ≡ gives c → length (c .instructions) ≤ most-budget
-  few-instructions file c e =
-      let s = accepted-sound file c e in
-      omega (arith, s .counted, within-means (c .program) (s .limits) .few-instructions)
+      abbrev second : Ended A
+      second = runOf G (c .instructions) inputs (first .answer .position) b (first .state)
 
-  lay-again : (xs ys buf : List A) → length xs ≡ length ys → lay ys (lay xs buf) ≡ lay ys buf
-  unfolding lay
-  lay-again xs ys buf e = ap (λ (l : List A). ys ++ l) (rw (← e) (drop-append-seam xs (drop (length xs) buf)))
+      abbrev whole : Ended A
+      whole = runOf G (c .instructions) inputs position (together a b) s
 
-  module _ (file : List ℕ) (inputs registers outputs : List A) (c : Code) (ok : checkOf file ≡ gives c) (room : Room (c .program) inputs registers outputs)
-      (s : State A) (sized : Sized (c .program) s) (position : ℕ) (h : position ≤ length (c .instructions)) (a b : ℕ) where
-    abbrev first : Ended A
-    first = runOf G (c .instructions) inputs position a s
+      one-run : continued first second ≡ whole
+      one-run = run-continued G (c .instructions) inputs (few-instructions file c ok) position a b s
 
-    abbrev second : Ended A
-    second = runOf G (c .instructions) inputs (first .answer .position) b (first .state)
+      sized-first : Sized (c .program) (first .state)
+      sized-first = sized-run (c .program) (c .instructions) inputs position a s sized
 
-    abbrev whole : Ended A
-    whole = runOf G (c .instructions) inputs position (together a b) s
+      sized-second : Sized (c .program) (second .state)
+      sized-second = sized-run (c .program) (c .instructions) inputs (first .answer .position) b (first .state) sized-first
 
-    one-run : continued first second ≡ whole
-    one-run = run-continued G (c .instructions) inputs (few-instructions file c ok) position a b s
+      runs-on : resumeOn G file inputs (lay (first .state .registers) registers) (lay (first .state .outputs) outputs) (first .answer .position) b ≡
+          gives second
+      runs-on =
+          resume-left (first .state) (first .answer .position) b sized-first
+          (run-before-end G (c .instructions) inputs position a s h)
 
-    goes-on : resumeOn G file inputs (lay (first .state .registers) registers) (lay (first .state .outputs) outputs) (first .answer .position) b ≡ gives second
-    goes-on =
-        resume-left file inputs registers outputs c (first .state) (first .answer .position) b ok
-        (run-before-end (c .instructions) inputs position a s h) room (sized-run (c .program) (c .instructions) inputs position a s sized)
+      left-continued : mapped (continued first)
+          (resumeOn G file inputs (lay (first .state .registers) registers) (lay (first .state .outputs) outputs) (first .answer .position) b) ≡
+          gives whole
+      left-continued = rw runs-on (ap gives one-run)
 
-    left-continued : mapped (continued first)
-        (resumeOn G file inputs (lay (first .state .registers) registers) (lay (first .state .outputs) outputs) (first .answer .position) b) ≡ gives whole
-    left-continued = rw goes-on (ap gives one-run)
-
-    left-again : again G file inputs (leaves registers outputs first) b ≡ gives (leaves registers outputs whole)
-    left-again =
-        let x = sized-run (c .program) (c .instructions) inputs position a s sized in
-        let y = sized-run (c .program) (c .instructions) inputs (first .answer .position) b (first .state) x in
-        rw (
-          goes-on,
-          ← one-run,
-          lay-again (first .state .registers) (second .state .registers) registers (x .of-registers ∙ sym (y .of-registers)),
-          lay-again (first .state .outputs) (second .state .outputs) outputs (x .of-outputs ∙ sym (y .of-outputs)),
-        )
+      left-again : again G file inputs (leaves registers outputs first) b ≡ gives (leaves registers outputs whole)
+      left-again =
+          let x = sized-first in
+          let y = sized-second in
+          rw (
+            runs-on,
+            ← one-run,
+            lay-again (first .state .registers) (second .state .registers) registers (x .of-registers ∙ sym (y .of-registers)),
+            lay-again (first .state .outputs) (second .state .outputs) outputs (x .of-outputs ∙ sym (y .of-outputs)),
+          )
 
 -- ---- a stop resumed as it was left
-carry : {B C : Type 0} (f g : C → B) (k : B → Outcome B) (o : Outcome C) → ((c : C) → o ≡ gives c → k (f c) ≡ gives (g c)) →
-    (e : B) → mapped f o ≡ gives e → k e ≡ mapped g o
-carry f g k (refused n) h e q = absurd (let z : _≡_ {A = ℕ} 0 1 = cc in omega arith)
-carry f g k (gives c) h e q = rw (← gives-inj q) (h c refl)
-
-carry-all : {A B C : Type 0} (f g : C → B) (l : B → A) (k : A → Outcome A) (o : Outcome C) →
-    ((c : C) → o ≡ gives c → k (l (f c)) ≡ gives (l (g c))) → (mapped l (mapped f o) >>= k) ≡ mapped l (mapped g o)
-carry-all f g l k (refused n) h = refl
-carry-all f g l k (gives c) h = h c refl
-
 module _ {A : Type 0} (G : Gates A) (file : List ℕ) (inputs registers outputs : List A) where
   -- what a resume as e left it comes to, the two taken as one run
   abbrev pub goneOn : ℕ → Ended A → Outcome (Ended A)
@@ -352,74 +450,87 @@ module _ {A : Type 0} (G : Gates A) (file : List ℕ) (inputs registers outputs 
       mapped (continued e)
       (resumeOn G file inputs (lay (e .state .registers) registers) (lay (e .state .outputs) outputs) (e .answer .position) b)
 
-  -- a start that gave e, resumed as it was left, comes to what a start on both budgets comes to: the same end, the same registers and outputs,
-  -- and the counts add up to its count
+  -- both of a run's result and of all that the caller holds
+  GoesOn : Ended A → Ended A → ℕ → Type 0
+  GoesOn e whole b =
+      (goneOn b e ≡ gives whole) × (again G file inputs (leaves registers outputs e) b ≡ gives (leaves registers outputs whole))
+
+  start-goes-on : (a b : ℕ) (c : Code) → admitted G file inputs registers outputs 0 ≡ gives c →
+      GoesOn (startRun G file inputs registers outputs a c) (startRun G file inputs registers outputs (together a b) c) b
+  unfolding GoesOn
+  start-goes-on a b c q =
+      let w = admitted-says G file inputs registers outputs 0 c q in
+      let z : Sized (c .program) (cleared G (c .program)) = sized-cleared G (c .program) in (
+        left-continued G file inputs registers outputs c (w .accepted) (w .room) (cleared G (c .program)) z 0 (w .before-end) a b,
+        left-again G file inputs registers outputs c (w .accepted) (w .room) (cleared G (c .program)) z 0 (w .before-end) a b,
+      )
+
+  resume-goes-on : (position a b : ℕ) (c : Code) → admitted G file inputs registers outputs position ≡ gives c →
+      GoesOn (resumeRun G file inputs registers outputs position a c) (resumeRun G file inputs registers outputs position (together a b) c) b
+  unfolding GoesOn
+  resume-goes-on position a b c q =
+      let w = admitted-says G file inputs registers outputs position c q in
+      let s : State A = lent G (c .program) registers outputs in
+      let z : Sized (c .program) s = sized-lent G (c .program) inputs registers outputs (w .room) in (
+        left-continued G file inputs registers outputs c (w .accepted) (w .room) s z position (w .before-end) a b,
+        left-again G file inputs registers outputs c (w .accepted) (w .room) s z position (w .before-end) a b,
+      )
+
+  -- a start that gave e, resumed as it was left, comes to what a start on both budgets together comes to: it ends there, with those registers
+  -- and outputs, and the counts add up to its count
   pub start-continued : (a b : ℕ) (e : Ended A) → startOn G file inputs registers outputs a ≡ gives e →
       goneOn b e ≡ startOn G file inputs registers outputs (together a b)
+  unfolding GoesOn
   start-continued a b e q =
       rw (start-is G file inputs registers outputs (together a b))
       (carry (startRun G file inputs registers outputs a) (startRun G file inputs registers outputs (together a b)) (goneOn b)
-      (admitted G file inputs registers outputs 0)
-      (λ c q. let w = admitted-says G file inputs registers outputs 0 c q in
-      left-continued G file inputs registers outputs c (w .accepted) (w .room) (cleared G (c .program)) (sized-cleared G (c .program)) 0 (w .before-end) a b)
-      e (sym (start-is G file inputs registers outputs a) ∙ q))
+      (admitted G file inputs registers outputs 0) (λ c q. start-goes-on a b c q .0) e
+      (sym (start-is G file inputs registers outputs a) ∙ q))
 
-  -- and so does a resume
+  -- and so with a resume
   pub resume-continued : (position a b : ℕ) (e : Ended A) → resumeOn G file inputs registers outputs position a ≡ gives e →
       goneOn b e ≡ resumeOn G file inputs registers outputs position (together a b)
+  unfolding GoesOn
   resume-continued position a b e q =
       rw (resume-is G file inputs registers outputs position (together a b))
       (carry (resumeRun G file inputs registers outputs position a) (resumeRun G file inputs registers outputs position (together a b)) (goneOn b)
-      (admitted G file inputs registers outputs position)
-      (λ c q. let w = admitted-says G file inputs registers outputs position c q in
-      left-continued G file inputs registers outputs c (w .accepted) (w .room) (lent G (c .program) registers outputs)
-      (sized-lent G (c .program) inputs registers outputs (w .room)) position (w .before-end) a b)
-      e (sym (resume-is G file inputs registers outputs position a) ∙ q))
+      (admitted G file inputs registers outputs position) (λ c q. resume-goes-on position a b c q .0) e
+      (sym (resume-is G file inputs registers outputs position a) ∙ q))
 
   -- the same of all that the caller holds after the two calls, and of refusals
   pub start-again : (a b : ℕ) →
       (started G file inputs registers outputs a >>= (λ l. again G file inputs l b)) ≡ started G file inputs registers outputs (together a b)
+  unfolding GoesOn
   start-again a b =
       rw (start-is G file inputs registers outputs a, start-is G file inputs registers outputs (together a b))
       (carry-all (startRun G file inputs registers outputs a) (startRun G file inputs registers outputs (together a b)) (leaves registers outputs)
-      (λ l. again G file inputs l b) (admitted G file inputs registers outputs 0)
-      (λ c q. let w = admitted-says G file inputs registers outputs 0 c q in
-      left-again G file inputs registers outputs c (w .accepted) (w .room) (cleared G (c .program)) (sized-cleared G (c .program)) 0 (w .before-end) a b))
+      (λ l. again G file inputs l b) (admitted G file inputs registers outputs 0) (λ c q. start-goes-on a b c q .1))
 
   pub resume-again : (position a b : ℕ) →
       (resumed G file inputs registers outputs position a >>= (λ l. again G file inputs l b)) ≡
       resumed G file inputs registers outputs position (together a b)
+  unfolding GoesOn
   resume-again position a b =
       rw (resume-is G file inputs registers outputs position a, resume-is G file inputs registers outputs position (together a b))
       (carry-all (resumeRun G file inputs registers outputs position a) (resumeRun G file inputs registers outputs position (together a b))
       (leaves registers outputs) (λ l. again G file inputs l b) (admitted G file inputs registers outputs position)
-      (λ c q. let w = admitted-says G file inputs registers outputs position c q in
-      left-again G file inputs registers outputs c (w .accepted) (w .room) (lent G (c .program) registers outputs)
-      (sized-lent G (c .program) inputs registers outputs (w .room)) position (w .before-end) a b))
+      (λ c q. resume-goes-on position a b c q .1))
 
--- ---- any number of stops
-together-total : (b x t : ℕ) → together (together b x) t ≡ together b (x + t)
-together-total b x t = omega arith
+  -- ---- any number of stops
+  together-total : (b x t : ℕ) → together (together b x) t ≡ together b (x + t)
+  together-total b x t = omega arith
 
-bind-bind : {A B C : Type 0} (o : Outcome A) (k : A → Outcome B) (h : B → Outcome C) → (o >>= (λ a. k a >>= h)) ≡ ((o >>= k) >>= h)
-bind-bind (refused n) k h = refl
-bind-bind (gives a) k h = refl
-
-bind-gives : {A : Type 0} (o : Outcome A) → (o >>= (λ a. gives a)) ≡ o
-bind-gives (refused n) = refl
-bind-gives (gives a) = refl
-
-module _ {A : Type 0} (G : Gates A) (file : List ℕ) (inputs registers outputs : List A) where
   -- a start and any number of resumes, each as the call before left it, end as one start on all budgets together
   pub start-onward : (b : ℕ) (bs : List ℕ) → b < 2 ^ 32 →
-      (started G file inputs registers outputs b >>= (λ l. onward G file inputs l bs)) ≡ started G file inputs registers outputs (together b (total bs))
+      (started G file inputs registers outputs b >>= (λ l. onward G file inputs l bs)) ≡
+      started G file inputs registers outputs (together b (total bs))
   unfolding onward total
   start-onward b [] h =
       let same : together b 0 ≡ b = omega arith in
       rw same (bind-gives (started G file inputs registers outputs b))
   start-onward b (x ∷ xs) h =
       bind-bind (started G file inputs registers outputs b) (λ l. again G file inputs l x) (λ m. onward G file inputs m xs) ∙
-      rw (start-again G file inputs registers outputs b x, ← together-total b x (total xs)) (start-onward (together b x) xs (omega arith))
+      rw (start-again b x, ← together-total b x (total xs)) (start-onward (together b x) xs (omega arith))
 
   pub resume-onward : (position b : ℕ) (bs : List ℕ) → b < 2 ^ 32 →
       (resumed G file inputs registers outputs position b >>= (λ l. onward G file inputs l bs)) ≡
@@ -430,93 +541,93 @@ module _ {A : Type 0} (G : Gates A) (file : List ℕ) (inputs registers outputs 
       rw same (bind-gives (resumed G file inputs registers outputs position b))
   resume-onward position b (x ∷ xs) h =
       bind-bind (resumed G file inputs registers outputs position b) (λ l. again G file inputs l x) (λ m. onward G file inputs m xs) ∙
-      rw (resume-again G file inputs registers outputs position b x, ← together-total b x (total xs)) (resume-onward position (together b x) xs (omega arith))
+      rw (resume-again position b x, ← together-total b x (total xs)) (resume-onward position (together b x) xs (omega arith))
+
+  -- so with budgets for all instructions, in however many calls, an accepted program is carried out whole
+  pub onward-whole : (b : ℕ) (bs : List ℕ) (c : Code) → checkOf file ≡ gives c → Room (c .program) inputs registers outputs → b < 2 ^ 32 →
+      c .program .count ≤ b + total bs →
+      (started G file inputs registers outputs b >>= (λ l. onward G file inputs l bs)) ≡
+      gives (leaves registers outputs (wholeRun G c inputs (together b (total bs)) (cleared G (c .program))))
+  onward-whole b bs c ok room h enough =
+      let n : c .program .count ≤ together b (total bs) = omega (arith, few-instructions file c ok, accepted-sound file c ok .counted) in
+      start-onward b bs h ∙ rw (start-whole G file inputs registers outputs (together b (total bs)) c ok room n)
 
 -- ---- a run's numbers depend on no word
-mapped-mapped : {A B C : Type 0} (f : A → B) (g : B → C) (h : A → C) (o : Outcome A) → ((a : A) → g (f a) ≡ h a) → mapped g (mapped f o) ≡ mapped h o
-mapped-mapped f g h (refused n) e = refl
-mapped-mapped f g h (gives a) e = ap gives (e a)
-
 numbers : ℕ → ℕ → Code → Run
 numbers position budget c = answerOf budget position (length (c .instructions))
 
-run-numbers : {A : Type 0} (G : Gates A) (inputs : List A) (position budget : ℕ) (c : Code) (s : State A) →
-    runOf G (c .instructions) inputs position budget s .answer ≡ numbers position budget c
-unfolding runOf numbers
-run-numbers G inputs position budget c s = refl
+module _ {A : Type 0} (G : Gates A) (file : List ℕ) (inputs registers outputs : List A) where
+  run-numbers : (position budget : ℕ) (c : Code) (s : State A) →
+      runOf G (c .instructions) inputs position budget s .answer ≡ numbers position budget c
+  unfolding runOf numbers
+  run-numbers position budget c s = refl
 
-start-numbers : {A : Type 0} (G : Gates A) (file : List ℕ) (inputs registers outputs : List A) (budget : ℕ) →
-    mapped (λ e. e .answer) (startOn G file inputs registers outputs budget) ≡ mapped (numbers 0 budget) (admitted G file inputs registers outputs 0)
-start-numbers G file inputs registers outputs budget =
-    rw (start-is G file inputs registers outputs budget)
-    (mapped-mapped (startRun G file inputs registers outputs budget) (λ e. e .answer) (numbers 0 budget) (admitted G file inputs registers outputs 0)
-    (λ c. run-numbers G inputs 0 budget c (cleared G (c .program))))
+  start-numbers : (budget : ℕ) →
+      mapped (λ e. e .answer) (startOn G file inputs registers outputs budget) ≡
+      mapped (numbers 0 budget) (admitted G file inputs registers outputs 0)
+  start-numbers budget =
+      rw (start-is G file inputs registers outputs budget)
+      (mapped-mapped (startRun G file inputs registers outputs budget) (λ e. e .answer) (numbers 0 budget)
+      (admitted G file inputs registers outputs 0) (λ c. run-numbers 0 budget c (cleared G (c .program))))
 
-resume-numbers : {A : Type 0} (G : Gates A) (file : List ℕ) (inputs registers outputs : List A) (position budget : ℕ) →
-    mapped (λ e. e .answer) (resumeOn G file inputs registers outputs position budget) ≡
-    mapped (numbers position budget) (admitted G file inputs registers outputs position)
-resume-numbers G file inputs registers outputs position budget =
-    rw (resume-is G file inputs registers outputs position budget)
-    (mapped-mapped (resumeRun G file inputs registers outputs position budget) (λ e. e .answer) (numbers position budget)
-    (admitted G file inputs registers outputs position) (λ c. run-numbers G inputs position budget c (lent G (c .program) registers outputs)))
+  resume-numbers : (position budget : ℕ) →
+      mapped (λ e. e .answer) (resumeOn G file inputs registers outputs position budget) ≡
+      mapped (numbers position budget) (admitted G file inputs registers outputs position)
+  resume-numbers position budget =
+      rw (resume-is G file inputs registers outputs position budget)
+      (mapped-mapped (resumeRun G file inputs registers outputs position budget) (λ e. e .answer) (numbers position budget)
+      (admitted G file inputs registers outputs position) (λ c. run-numbers position budget c (lent G (c .program) registers outputs)))
 
--- enough words are lent for the program of a file, if it is accepted
-abbrev pub Enough : {A : Type 0} → List ℕ → List A → List A → List A → Type 0
-Enough file inputs registers outputs = (c : Code) → checkOf file ≡ gives c → Room (c .program) inputs registers outputs
+module _ {A B : Type 0} (G : Gates A) (H : Gates B) (file : List ℕ) (inputs registers outputs : List A)
+    (inputs′ registers′ outputs′ : List B) where
+  alike : (position budget : ℕ) → admitted G file inputs registers outputs position ≡ admitted H file inputs′ registers′ outputs′ position →
+      mapped (λ e. e .answer) (resumeOn G file inputs registers outputs position budget) ≡
+      mapped (λ e. e .answer) (resumeOn H file inputs′ registers′ outputs′ position budget)
+  alike position budget e =
+      resume-numbers G file inputs registers outputs position budget ∙
+      (ap (mapped (numbers position budget)) e ∙ sym (resume-numbers H file inputs′ registers′ outputs′ position budget))
 
--- then the lent words play no part
-admitted-enough : {A : Type 0} (G : Gates A) (file : List ℕ) (inputs registers outputs : List A) (position : ℕ) → Enough file inputs registers outputs →
-    admitted G file inputs registers outputs position ≡ (checkOf file >>= (λ c. refuse 12 (ltb (length (c .instructions)) position) >> gives c))
-unfolding admitted
-admitted-enough G file inputs registers outputs position enough =
-    bind-eq (checkOf file) _ _ (λ c e. rw (room-gives G (c .program) inputs registers outputs (enough c e)))
+  alike-start : (budget : ℕ) → admitted G file inputs registers outputs 0 ≡ admitted H file inputs′ registers′ outputs′ 0 →
+      mapped (λ e. e .answer) (startOn G file inputs registers outputs budget) ≡
+      mapped (λ e. e .answer) (startOn H file inputs′ registers′ outputs′ budget)
+  alike-start budget e =
+      start-numbers G file inputs registers outputs budget ∙
+      (ap (mapped (numbers 0 budget)) e ∙ sym (start-numbers H file inputs′ registers′ outputs′ budget))
 
-module _ {A B : Type 0} (G : Gates A) (H : Gates B) (file : List ℕ) (inputs registers outputs : List A) (inputs′ registers′ outputs′ : List B) where
-  -- on two lists each of inputs, registers and outputs that are long enough
+  -- two lists each of inputs, registers and outputs, all long enough: the same answer
   module _ (enough : Enough file inputs registers outputs) (enough′ : Enough file inputs′ registers′ outputs′) where
+    pub both-enough : (position : ℕ) → admitted G file inputs registers outputs position ≡ admitted H file inputs′ registers′ outputs′ position
+    both-enough position =
+        admitted-enough G file inputs registers outputs position enough ∙
+        sym (admitted-enough H file inputs′ registers′ outputs′ position enough′)
+
     pub start-alike : (budget : ℕ) →
-        mapped (λ e. e .answer) (startOn G file inputs registers outputs budget) ≡ mapped (λ e. e .answer) (startOn H file inputs′ registers′ outputs′ budget)
-    start-alike budget =
-        rw (start-numbers G file inputs registers outputs budget, start-numbers H file inputs′ registers′ outputs′ budget)
-        (rw (admitted-enough G file inputs registers outputs 0 enough, admitted-enough H file inputs′ registers′ outputs′ 0 enough′))
+        mapped (λ e. e .answer) (startOn G file inputs registers outputs budget) ≡
+        mapped (λ e. e .answer) (startOn H file inputs′ registers′ outputs′ budget)
+    start-alike budget = alike-start budget (both-enough 0)
 
     pub resume-alike : (position budget : ℕ) →
         mapped (λ e. e .answer) (resumeOn G file inputs registers outputs position budget) ≡
         mapped (λ e. e .answer) (resumeOn H file inputs′ registers′ outputs′ position budget)
-    resume-alike position budget =
-        rw (resume-numbers G file inputs registers outputs position budget, resume-numbers H file inputs′ registers′ outputs′ position budget)
-        (rw (admitted-enough G file inputs registers outputs position enough, admitted-enough H file inputs′ registers′ outputs′ position enough′))
+    resume-alike position budget = alike position budget (both-enough position)
 
-  -- and on lists of equal lengths, whether long enough or not
+  -- and of equal lengths, long enough or not
   module _ (i : length inputs ≡ length inputs′) (r : length registers ≡ length registers′) (o : length outputs ≡ length outputs′) where
-    pub admitted-alike : (position : ℕ) → admitted G file inputs registers outputs position ≡ admitted H file inputs′ registers′ outputs′ position
+    pub equal-lengths : (position : ℕ) → admitted G file inputs registers outputs position ≡ admitted H file inputs′ registers′ outputs′ position
     unfolding admitted
-    admitted-alike position = rw (i, r, o)
+    equal-lengths position = rw (i, r, o)
 
     pub start-same : (budget : ℕ) →
-        mapped (λ e. e .answer) (startOn G file inputs registers outputs budget) ≡ mapped (λ e. e .answer) (startOn H file inputs′ registers′ outputs′ budget)
-    start-same budget =
-        start-numbers G file inputs registers outputs budget ∙
-        (ap (mapped (numbers 0 budget)) (admitted-alike 0) ∙ sym (start-numbers H file inputs′ registers′ outputs′ budget))
+        mapped (λ e. e .answer) (startOn G file inputs registers outputs budget) ≡
+        mapped (λ e. e .answer) (startOn H file inputs′ registers′ outputs′ budget)
+    start-same budget = alike-start budget (equal-lengths 0)
 
     pub resume-same : (position budget : ℕ) →
         mapped (λ e. e .answer) (resumeOn G file inputs registers outputs position budget) ≡
         mapped (λ e. e .answer) (resumeOn H file inputs′ registers′ outputs′ position budget)
-    resume-same position budget =
-        resume-numbers G file inputs registers outputs position budget ∙
-        (ap (mapped (numbers position budget)) (admitted-alike position) ∙ sym (resume-numbers H file inputs′ registers′ outputs′ position budget))
+    resume-same position budget = alike position budget (equal-lengths position)
 
 -- ---- when a run stops
--- the rules of 01 for the answer of a run from a position on, in a program of so many instructions
-pub record Obeys (position budget count : ℕ) (r : Run) : Type 0 where
-  pub own-budget : r .budget ≡ budget
-  pub moved : r .position ≡ position + r .count
-  pub afforded : r .count ≤ budget
-  -- stopped exactly when the budget is used up and instructions remain
-  pub stopped : (r .finished ≡ false) ↔ ((r .count ≡ budget) × (r .position < count))
-  -- finished otherwise, and then at the instruction count
-  pub ended : (r .finished ≡ true) ↔ (r .position ≡ count)
-
 answer-obeys : (position budget count : ℕ) → position ≤ count → Obeys position budget count (answerOf budget position count)
 answer-obeys position budget count h =
     let at : ℕ = position + steps budget position count in
@@ -529,27 +640,24 @@ answer-obeys position budget count h =
     }
 
 module _ {A : Type 0} (G : Gates A) (file : List ℕ) (inputs registers outputs : List A) (c : Code) (ok : checkOf file ≡ gives c) where
-  obeys : (position budget : ℕ) (r : Run) → position ≤ length (c .instructions) → r ≡ numbers position budget c →
+  obeys : (position budget : ℕ) (r : Run) → gives r ≡ mapped (numbers position budget) (admitted G file inputs registers outputs position) →
       Obeys position budget (c .program .count) r
   unfolding numbers
-  obeys position budget r h e =
-      rw (e, accepted-sound file c ok .counted) (answer-obeys position budget (length (c .instructions)) h)
+  obeys position budget r e =
+      let m = mapped-gives (numbers position budget) (admitted G file inputs registers outputs position) r e in
+      let w = admitted-says G file inputs registers outputs position (m .0) (m .1) in
+      let same : m .0 ≡ c = gives-inj (sym (w .accepted) ∙ ok) in
+      let here : position ≤ length (c .instructions) = omega (arith, w .before-end, ap (λ (c : Code). length (c .instructions)) same) in
+      let is : r ≡ numbers position budget c = sym (m .2) ∙ ap (numbers position budget) same in
+      rw (is, accepted-sound file c ok .counted) (answer-obeys position budget (length (c .instructions)) here)
 
   pub start-obeys : (budget : ℕ) (e : Ended A) → startOn G file inputs registers outputs budget ≡ gives e →
       Obeys 0 budget (c .program .count) (e .answer)
   start-obeys budget e q =
-      let m = mapped-gives (numbers 0 budget) (admitted G file inputs registers outputs 0) (e .answer)
-      (ap (mapped (λ e. e .answer)) (sym q) ∙ start-numbers G file inputs registers outputs budget) in
-      let w = admitted-says G file inputs registers outputs 0 (m .0) (m .1) in
-      let same : m .0 ≡ c = gives-inj (sym (w .accepted) ∙ ok) in
-      obeys 0 budget (e .answer) (omega arith) (sym (m .2) ∙ ap (numbers 0 budget) same)
+      obeys 0 budget (e .answer) (ap (mapped (λ e. e .answer)) (sym q) ∙ start-numbers G file inputs registers outputs budget)
 
   pub resume-obeys : (position budget : ℕ) (e : Ended A) → resumeOn G file inputs registers outputs position budget ≡ gives e →
       Obeys position budget (c .program .count) (e .answer)
   resume-obeys position budget e q =
-      let m = mapped-gives (numbers position budget) (admitted G file inputs registers outputs position) (e .answer)
-      (ap (mapped (λ e. e .answer)) (sym q) ∙ resume-numbers G file inputs registers outputs position budget) in
-      let w = admitted-says G file inputs registers outputs position (m .0) (m .1) in
-      let same : m .0 ≡ c = gives-inj (sym (w .accepted) ∙ ok) in
-      obeys position budget (e .answer) (omega (arith, w .before-end, ap (λ (c : Code). length (c .instructions)) same))
-      (sym (m .2) ∙ ap (numbers position budget) same)
+      obeys position budget (e .answer)
+      (ap (mapped (λ e. e .answer)) (sym q) ∙ resume-numbers G file inputs registers outputs position budget)

@@ -1,0 +1,66 @@
+-- What is compiled is always an accepted program. Assumes nothing.
+use Prim.Native.Nat.{ℕ, _+_, _*_, _≤_}
+use mathlib.Core.Path.{_≡_, refl, sym}
+use mathlib.Core.Bool.{true}
+use mathlib.Core.List.{List, _++_}
+use native.Mathlib.Omega.{arith}
+use borrow.Author.Tests.{le-leb, ltb-false}
+use lib.Dec.{ltb}
+use lib.ListN.{length}
+use Rattle.laws.specs.Lay.{blocks}
+use Rattle.laws.specs.Outcome.{gives, passed, gives-inj}
+use Rattle.files.specs.Matrix.{Matrix, Accepted, bit}
+use Rattle.files.specs.Files.{matrixOf}
+use Rattle.files.specs.RoundTrip.{read-accepted}
+use Rattle.programs.specs.Limits.{most-registers, most-inputs, most-outputs, most-instructions, among, within}
+use Rattle.machine.specs.Checks.{checkOf}
+use Rattle.machine.specs.Accepting.{Sound, accepted}
+use Rattle.compiler.specs.Translation.{rowBits, begin, end, column, translation, program, compiled, compileOf}
+use Rattle.compiler.specs.Width.{few-bits}
+use Rattle.compiler.specs.Room.{accepted-roomy}
+use Rattle.compiler.specs.Ranges.{in-range, all-set}
+use Rattle.compiler.specs.Written.{written-first}
+use Rattle.compiler.specs.Size.{short}
+
+among-limits : (most x : ℕ) → 1 ≤ x → x ≤ most → among most x ≡ true
+among-limits most x a b = rw (le-leb 1 x a, le-leb x most b)
+
+module _ (M : Matrix) (a : Accepted M) where
+  within-limits : within (program M) ≡ true
+  unfolding program translation
+  within-limits =
+      let k : ℕ = rowBits (M .rows) in
+      let bits = few-bits (M .rows) (a .some-rows) (a .few-rows) in
+      rw (
+        among-limits most-registers (3 + k + 3 * M .rows) (omega arith) (omega (arith, a .few-rows)),
+        among-limits most-inputs (M .columns) (a .some-columns) (a .few-columns),
+        among-limits most-outputs (1 + k) (omega arith) (omega arith),
+      )
+      (le-leb (length (begin k ++ blocks (M .columns) (column k (M .rows) (bit M)) ++ end k)) most-instructions
+      (omega (arith, short k (M .rows) (M .columns) (bit M) bits (a .some-rows) (a .few-rows) (a .few-columns))))
+
+  pub sound : Sound (program M) (translation M)
+  unfolding program translation
+  sound =
+      let k : ℕ = rowBits (M .rows) in
+      let roomy = accepted-roomy M a in
+      record {
+        limits = within-limits;
+        counted = refl;
+        in-range = in-range k (M .rows) (M .columns) (bit M) roomy;
+        written = written-first k (M .rows) (M .columns) (bit M) roomy;
+        all-set = λ o h. all-set k (begin k ++ blocks (M .columns) (column k (M .rows) (bit M))) o h;
+      }
+
+  pub compiled-accepted : checkOf (compiled M) ≡ gives (record { program = program M; instructions = translation M })
+  unfolding compiled
+  compiled-accepted = accepted (program M) (translation M) sound
+
+-- what compiling a file lays down is accepted, always: no run refuses it
+pub compile-accepted : (file code : List ℕ) (room : ℕ) (M : Matrix) → matrixOf file ≡ gives M → compileOf file room ≡ gives code →
+    (code ≡ compiled M) × (length code ≤ room) × (checkOf code ≡ gives (record { program = program M; instructions = translation M }))
+unfolding compileOf
+compile-accepted file code room M e c =
+    let t = passed 13 (ltb room (length (compiled M))) (gives (compiled M)) code (rw e at c) in
+    let same : code ≡ compiled M = sym (gives-inj (t .1)) in
+    rw same (refl, ltb-false room (length (compiled M)) (t .0), compiled-accepted M (read-accepted file M e))

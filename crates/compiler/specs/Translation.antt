@@ -1,0 +1,145 @@
+-- 01, "Translation": the program of a matrix, instruction by instruction, and what compiling a matrix file comes to. Assumes nothing.
+use Prim.Native.Nat.{ℕ, zero, suc, _+_, _-_, _*_, _/_, _%_, _^_, min}
+use mathlib.Core.Path.{_≡_, refl}
+use mathlib.Core.Bool.{cond}
+use mathlib.Core.List.{List, [], _∷_, _++_}
+use lib.Dec.{ltb}
+use lib.ListN.{length}
+use Rattle.laws.specs.Sums.{sumTo}
+use Rattle.laws.specs.Lay.{blocks}
+use Rattle.laws.specs.Outcome.{Outcome, gives, refuse, _>>_, _>>=_}
+use Rattle.files.specs.Matrix.{Matrix, bit}
+use Rattle.files.specs.Files.{matrixOf}
+use Rattle.files.specs.Live.{weight}
+use Rattle.programs.specs.Header.{programFile}
+use Rattle.programs.specs.declared.description.Program.{Program}
+use Rattle.programs.specs.declared.description.Instruction.{Instruction}
+use Rattle.programs.specs.declared.description.Instruction.the-variants.{Ones, Zero, Input, Not, And, Or, Output}
+
+-- the bits needed to write x, where those needed to write x - 1 are k: one more where k bits are too few
+abbrev pub widened : ℕ → ℕ → ℕ
+widened x k = cond (ltb x (2 ^ k)) k (suc k)
+
+-- the bits needed to write x, none for 0
+unfoldable pub bitsToWrite : ℕ → ℕ
+bitsToWrite zero = 0
+bitsToWrite (suc x) = widened (suc x) (bitsToWrite x)
+
+-- k, for m rows: the bits needed to write m - 1
+unfoldable pub rowBits : ℕ → ℕ
+rowBits m = bitsToWrite (m - 1)
+
+-- ---- registers: B, N, H, then k of V, m of X, 2m of Y
+abbrev pub regB : ℕ
+regB = 0
+
+abbrev pub regN : ℕ
+regN = 1
+
+abbrev pub regH : ℕ
+regH = 2
+
+abbrev pub regV : ℕ → ℕ
+regV t = 3 + t
+
+abbrev pub regX : ℕ → ℕ → ℕ
+regX k i = 3 + k + i
+
+abbrev pub regY : ℕ → ℕ → ℕ → ℕ
+regY k m j = 3 + k + m + j
+
+-- ---- the parts of the program
+-- X_0 is set, H and each V_t clear
+abbrev pub clear : ℕ → List Instruction
+clear t = Zero (regV t) ∷ []
+
+unfoldable pub begin : ℕ → List Instruction
+begin k = Ones (regX k 0) ∷ Zero regH ∷ [] ++ blocks k clear
+
+-- bit c is read, and the distance i becomes 2i or 2i + 1, for each of the h live ones
+abbrev pub apart : ℕ → ℕ → ℕ → List Instruction
+apart k m i = And (regY k m (2 * i)) (regX k i) regN ∷ And (regY k m (2 * i + 1)) (regX k i) regB ∷ []
+
+unfoldable pub split : ℕ → ℕ → ℕ → ℕ → List Instruction
+split k m c h = Input regB c ∷ Not regN regB ∷ [] ++ blocks h (apart k m)
+
+-- an instruction for a set bit, and none for a clear one
+unfoldable pub ifSet : ℕ → Instruction → List Instruction
+ifSet zero i = []
+ifSet (suc b) i = i ∷ []
+
+-- row v, the set row met j-th: H, and V_t for each set bit t of v, lowest first
+abbrev pub spell : ℕ → ℕ → ℕ → ℕ → ℕ → List Instruction
+spell k m v j t = ifSet (v / 2 ^ t % 2) (Or (regV t) (regV t) (regY k m j))
+
+unfoldable pub mark : ℕ → ℕ → ℕ → ℕ → List Instruction
+mark k m v j = Or regH regH (regY k m j) ∷ [] ++ blocks k (spell k m v j)
+
+-- a row whose bit is b, with j set rows met before it: its mark if it is set, and then the rows below it
+unfoldable pub met : ℕ → List Instruction → ℕ → (ℕ → List Instruction) → List Instruction
+met zero marked j below = below j
+met (suc b) marked j below = marked ++ below (suc j)
+
+-- the rows r - 1 down to 0 of one column, with j set rows met before them
+unfoldable pub marks : ℕ → ℕ → (ℕ → ℕ) → ℕ → ℕ → List Instruction
+marks k m column zero j = []
+marks k m column (suc r) j = met (column r) (mark k m r j) j (λ i. marks k m column r i)
+
+-- after w set rows the distance w + i is i, for each of the h that stay live
+abbrev pub carry : ℕ → ℕ → ℕ → ℕ → List Instruction
+carry k m w i = Or (regX k i) (regY k m (w + i)) (regY k m (w + i)) ∷ []
+
+unfoldable pub keep : ℕ → ℕ → ℕ → ℕ → List Instruction
+keep k m w h = blocks h (carry k m w)
+
+-- H, then each V_t
+abbrev pub tell : ℕ → List Instruction
+tell t = Output (1 + t) (regV t) ∷ []
+
+unfoldable pub end : ℕ → List Instruction
+end k = Output 0 regH ∷ [] ++ blocks k tell
+
+-- the live count h before column c: 1, and after a column with w ones the smaller of 2h - w and m
+unfoldable pub liveBefore : (ℕ → ℕ → ℕ) → ℕ → ℕ → ℕ
+liveBefore bit m zero = 1
+liveBefore bit m (suc c) = min (2 * liveBefore bit m c - weight bit m c) m
+
+-- column c: its distances split, its set rows are met, and what is left of the distances is kept
+unfoldable pub column : ℕ → ℕ → (ℕ → ℕ → ℕ) → ℕ → List Instruction
+column k m bit c =
+    split k m c (liveBefore bit m c) ++ marks k m (λ v. bit v c) m 0 ++ keep k m (weight bit m c) (liveBefore bit m (suc c))
+
+-- ---- the program of a matrix
+-- its instructions
+unfoldable pub translation : Matrix → List Instruction
+translation M = begin (rowBits (M .rows)) ++ blocks (M .columns) (column (rowBits (M .rows)) (M .rows) (bit M)) ++ end (rowBits (M .rows))
+
+-- its header
+unfoldable pub program : Matrix → Program
+program M =
+    record {
+      registers = 3 + rowBits (M .rows) + 3 * M .rows;
+      inputs = M .columns;
+      outputs = 1 + rowBits (M .rows);
+      count = length (translation M);
+    }
+
+-- its file
+unfoldable pub compiled : Matrix → List ℕ
+compiled M = programFile (program M) (translation M)
+
+-- compiling a matrix file into a buffer of `room` bytes: the matrix's checks, then 13 for the whole program, which is laid down
+unfoldable pub compileOf : List ℕ → ℕ → Outcome (List ℕ)
+compileOf file room = do
+  M ← matrixOf file
+  refuse 13 (ltb room (length (compiled M)))
+  gives (compiled M)
+
+-- ---- 01, "Checked by hand": the listing for rows 1, 1 of one column
+abbrev two-ones : Matrix
+two-ones = record { rows = 2; columns = 1; entries = 1 ∷ 1 ∷ [] }
+
+listed : (program two-ones ≡ record { registers = 10; inputs = 1; outputs = 2; count = 12 }) × (translation two-ones ≡
+    Ones 4 ∷ Zero 2 ∷ Zero 3 ∷ Input 0 0 ∷ Not 1 0 ∷ And 6 4 1 ∷ And 7 4 0 ∷ Or 2 2 6 ∷ Or 3 3 6 ∷ Or 2 2 7 ∷ Output 0 2 ∷ Output 1 3 ∷ [])
+unfolding program translation begin split mark met marks keep end column ifSet liveBefore rowBits bitsToWrite weight sumTo bit blocks
+listed = (refl, refl)

@@ -1,0 +1,60 @@
+-- The walk as the places that it comes to, column after column. Assumes nothing.
+use Prim.Native.Nat.{ℕ, zero, suc, _+_, _*_, _<_}
+use mathlib.Core.Path.{_≡_, _∙_}
+use native.Mathlib.Omega.{arith}
+use Rattle.laws.specs.Lay.{upto}
+use Rattle.laws.specs.From.{from, upto-from}
+use Rattle.walk.specs.Walk.{Place, found, left, answerOf, at, scan, then, walk}
+use Rattle.compiler.specs.PlaceBits.{doubled, onto, told, told-none, told-column}
+
+-- a row that is hit is below r
+abbrev pub Below : ℕ → Place → Type 0
+Below r (found v) = v < r
+Below r (left d) = Unit {0}
+
+below-more : (r : ℕ) (o : Place) → Below r o → Below (suc r) o
+below-more r (found v) h = omega arith
+below-more r (left d) h = tt
+
+at-below : (x r d : ℕ) (go : ℕ → Place) → ((e : ℕ) → Below r (go e)) → Below (suc r) (at x r d go)
+unfolding at
+at-below zero r d go f = below-more r (go d) (f d)
+at-below (suc x) r zero go f = omega arith
+at-below (suc x) r (suc d) go f = below-more r (go d) (f d)
+
+scan-below : (ones : ℕ → ℕ) (r d : ℕ) → Below r (scan ones r d)
+unfolding scan
+scan-below ones zero d = tt
+scan-below ones (suc r) d = at-below (ones r) r d (λ e. scan ones r e) (λ e. scan-below ones r e)
+
+module _ (bit : ℕ → ℕ → ℕ) (m : ℕ) (b : ℕ → ℕ) where
+  -- after c columns, on the bits b 0, b 1, ..
+  unfoldable pub placeAfter : ℕ → Place
+  placeAfter zero = left 0
+  placeAfter (suc c) = onto (doubled (b c) (placeAfter c)) (λ d. scan (λ v. bit v c) m d)
+
+  walk-told : (n c x : ℕ) → answerOf (then x (placeAfter c) (λ d. walk bit m c d (from b c n))) ≡ told (placeAfter (c + n))
+  unfolding from walk placeAfter
+  walk-told zero c x =
+      let e : c + 0 ≡ c = omega arith in
+      rw e (told-none x (placeAfter c))
+  walk-told (suc n) c x =
+      let e : suc c + n ≡ c + suc n = omega arith in
+      told-column x c (b c) (placeAfter c) (λ d. scan (λ v. bit v c) m d) (λ d. walk bit m (suc c) d (from b (suc c) n)) ∙
+      (rw e at (walk-told n (suc c) c))
+
+  pub place-told : (n : ℕ) → answerOf (walk bit m 0 0 (upto n b)) ≡ told (placeAfter n)
+  unfolding placeAfter then
+  place-told n =
+      let e : 0 + n ≡ n = omega arith in
+      rw (upto-from n b) (rw e at (walk-told n 0 0))
+
+  onto-below : (x : ℕ) (o : Place) (go : ℕ → Place) → Below m o → ((d : ℕ) → Below m (go d)) → Below m (onto (doubled x o) go)
+  unfolding onto doubled
+  onto-below x (found v) go h f = h
+  onto-below x (left d) go h f = f (2 * d + x)
+
+  pub place-below : (c : ℕ) → Below m (placeAfter c)
+  unfolding placeAfter
+  place-below zero = tt
+  place-below (suc c) = onto-below (b c) (placeAfter c) (λ d. scan (λ v. bit v c) m d) (place-below c) (λ d. scan-below (λ v. bit v c) m d)

@@ -1,0 +1,155 @@
+-- No register of the translation is read before an instruction has written it. The registers that are written are followed as two spans of
+-- numbers: from B, N or H up into the X, and the first of the Y. Assumes nothing.
+use Prim.Native.Nat.{ℕ, zero, suc, _+_, _*_, _/_, _%_, _^_, _≤_, _<_}
+use mathlib.Core.Path.{_≡_, refl}
+use mathlib.Core.List.{List, [], _∷_, _++_}
+use mathlib.Core.Logic.{_⊎_, inl, inr, ⊎-elim}
+use native.Mathlib.Nat.{eq-or-lt-of-le}
+use native.Mathlib.Omega.{arith}
+use Rattle.laws.specs.Lay.{blocks}
+use Rattle.files.specs.Live.{weight}
+use Rattle.programs.specs.Instructions.{uses}
+use Rattle.programs.specs.declared.description.Instruction.{Instruction}
+use Rattle.programs.specs.declared.description.Instruction.the-variants.{Or}
+use Rattle.machine.specs.Accepting.{Each, OneOf, Ready, none, each-blocks, ready-more, ready-less, ready-append, ready-blocks, ready-stay}
+use Rattle.compiler.specs.Translation.{regB, regN, regH, regV, regX, regY, clear, begin, apart, split, ifSet, spell, mark, met, marks, carry, keep, tell, end, liveBefore, column}
+use Rattle.compiler.specs.Room.{Roomy, live-next}
+use Rattle.compiler.specs.Ranges.{marks-each}
+
+-- the numbers from a up to b, and from c up to d
+abbrev Spans : ℕ → ℕ → ℕ → ℕ → ℕ → Type 0
+Spans a b c d r = ((a ≤ r) × (r < b)) ⊎ ((c ≤ r) × (r < d))
+
+-- a span that grew by one at its end
+first-grown : (a b b′ c d r : ℕ) → b′ ≤ suc b → Spans a b′ c d r → OneOf (b ∷ []) r ⊎ Spans a b c d r
+first-grown a b b′ c d r h (inl x) =
+    let l : suc r ≤ suc b = omega arith in
+    ⊎-elim (λ (q : suc r ≡ suc b). inl (inl (omega arith))) (λ (q : suc r < suc b). inr (inl (omega arith))) (eq-or-lt-of-le l)
+first-grown a b b′ c d r h (inr x) = inr (inr x)
+
+second-grown : (a b c d d′ r : ℕ) → d′ ≤ suc d → Spans a b c d′ r → OneOf (d ∷ []) r ⊎ Spans a b c d r
+second-grown a b c d d′ r h (inl x) = inr (inl x)
+second-grown a b c d d′ r h (inr x) =
+    let l : suc r ≤ suc d = omega arith in
+    ⊎-elim (λ (q : suc r ≡ suc d). inl (inl (omega arith))) (λ (q : suc r < suc d). inr (inr (omega arith))) (eq-or-lt-of-le l)
+
+module _ (k m : ℕ) where
+  -- between columns: H, each V, and h of the X
+  abbrev Held : ℕ → ℕ → Type 0
+  Held h r = (2 ≤ r) × (r < regX k h)
+
+  -- ---- the beginning
+  begin-held : (r : ℕ) → Held 1 r → Spans 2 (3 + k) (regX k 0) (regX k 1) r
+  begin-held r x =
+      ⊎-elim (λ (q : suc r ≡ regX k 1). inr (omega arith)) (λ (q : suc r < regX k 1). inl (omega arith)) (eq-or-lt-of-le (x .1))
+
+  zeros-ready : Ready (Spans 2 3 (regX k 0) (regX k 1)) (blocks k clear) (Spans 2 (3 + k) (regX k 0) (regX k 1))
+  zeros-ready =
+      ready-blocks (λ t. Spans 2 (3 + t) (regX k 0) (regX k 1)) clear k
+      (λ t l. (tt, (λ r x. first-grown 2 (3 + t) (3 + suc t) (regX k 0) (regX k 1) r (omega arith) x)))
+
+  begun : (r : ℕ) → Spans 2 3 (regX k 0) (regX k 1) r → OneOf (regH ∷ []) r ⊎ (OneOf (regX k 0 ∷ []) r ⊎ ⊥)
+  begun r (inl x) = inl (inl (omega arith))
+  begun r (inr x) = inr (inl (inl (omega arith)))
+
+  begin-ready : Ready none (begin k) (Held 1)
+  unfolding begin
+  begin-ready =
+      let zeros : List Instruction = blocks k clear in
+      let after : ℕ → Type 0 = Spans 2 (3 + k) (regX k 0) (regX k 1) in
+      (tt, (tt, ready-less zeros _ after (Held 1) begin-held (ready-more zeros (Spans 2 3 (regX k 0) (regX k 1)) _ after begun zeros-ready)))
+
+  -- ---- a column with h distances live before it
+  module _ (h : ℕ) where
+    -- B and N too, and j of the Y
+    abbrev Open : ℕ → ℕ → Type 0
+    Open j r = Spans 0 (regX k h) (regY k m 0) (regY k m j) r
+
+    opened : (r : ℕ) → Open 0 r → OneOf (regN ∷ []) r ⊎ (OneOf (regB ∷ []) r ⊎ Held h r)
+    opened zero x = inr (inl (inl refl))
+    opened (suc zero) x = inl (inl refl)
+    opened (suc (suc r)) (inl x) = inr (inr (omega arith))
+    opened (suc (suc r)) (inr x) = absurd (omega arith)
+
+    apart-ready : (i : ℕ) → i < h → Ready (Open (2 * i)) (apart k m i) (Open (2 * suc i))
+    apart-ready i l = (
+      (inl (omega arith), (inl (omega arith), tt)),
+      (
+        (inr (inl (omega arith)), (inr (inl (omega arith)), tt)),
+        (λ r x. ⊎-elim
+            (λ (q : OneOf (regY k m (2 * i + 1) ∷ []) r). inl q)
+            (λ (y : Open (2 * i + 1) r). inr (second-grown 0 (regX k h) (regY k m 0) (regY k m (2 * i)) (regY k m (2 * i + 1)) r (omega arith) y))
+            (second-grown 0 (regX k h) (regY k m 0) (regY k m (2 * i + 1)) (regY k m (2 * suc i)) r (omega arith) x)),
+      ),
+    )
+
+    split-ready : (c : ℕ) → Ready (Held h) (split k m c h) (Open (2 * h))
+    unfolding split
+    split-ready c =
+        let pairs = ready-blocks (λ i. Open (2 * i)) (apart k m) h apart-ready in
+        (tt, ((inl (inl refl), tt), ready-more (blocks h (apart k m)) (Open 0) _ (Open (2 * h)) opened pairs))
+
+    -- the marks write only what is written already
+    abbrev Reading : Instruction → Type 0
+    Reading i = Each (Open (2 * h)) (uses i .reads)
+
+    if-reads : (b t j : ℕ) → t < k → j < 2 * h → Each Reading (ifSet b (Or (regV t) (regV t) (regY k m j)))
+    unfolding ifSet
+    if-reads zero t j l u = tt
+    if-reads (suc b) t j l u = ((inl (omega arith), (inr (omega arith), tt)), tt)
+
+    mark-reads : (v j : ℕ) → j < 2 * h → Each Reading (mark k m v j)
+    unfolding mark
+    mark-reads v j l = (
+      (inl (omega arith), (inr (omega arith), tt)),
+      each-blocks Reading (spell k m v j) k (λ t u. if-reads (v / 2 ^ t % 2) t j u l),
+    )
+
+    -- the first i of the X, and the Y
+    abbrev Kept : ℕ → ℕ → Type 0
+    Kept i r = Spans 0 (regX k i) (regY k m 0) (regY k m (2 * h)) r
+
+    kept-none : (r : ℕ) → Kept 0 r → Open (2 * h) r
+    kept-none r (inl x) = inl (omega arith)
+    kept-none r (inr x) = inr x
+
+    keep-ready : (w g : ℕ) → w + g ≤ 2 * h → Ready (Open (2 * h)) (keep k m w g) (Held g)
+    unfolding keep
+    keep-ready w g l =
+        let kept : List Instruction = blocks g (carry k m w) in
+        ready-less kept (Open (2 * h)) (Kept g) (Held g) (λ r x. inl (omega arith))
+        (ready-more kept (Kept 0) (Open (2 * h)) (Kept g) kept-none
+        (ready-blocks Kept (carry k m w) g
+        (λ i u. (
+          (inr (omega arith), (inr (omega arith), tt)),
+          (λ r x. first-grown 0 (regX k i) (regX k (suc i)) (regY k m 0) (regY k m (2 * h)) r (omega arith) x),
+        ))))
+
+  module _ (n : ℕ) (bit : ℕ → ℕ → ℕ) (roomy : Roomy m n bit) where
+    column-ready : (c : ℕ) → c < n → Ready (Held (liveBefore bit m c)) (column k m bit c) (Held (liveBefore bit m (suc c)))
+    unfolding column weight
+    column-ready c l =
+        let h : ℕ = liveBefore bit m c in
+        let g : ℕ = liveBefore bit m (suc c) in
+        let met = marks k m (λ v. bit v c) m 0 in
+        let next = live-next m n bit roomy c l in
+        ready-append (split k m c h ++ met) (keep k m (weight bit m c) g) (Held h) (Open h (2 * h)) (Held g)
+        (ready-append (split k m c h) met (Held h) (Open h (2 * h)) (Open h (2 * h)) (split-ready h c)
+        (ready-stay (Open h (2 * h)) met
+        (marks-each k m (Reading h) (2 * h) (λ v j u. mark-reads h v j u) (λ v. bit v c) m 0 (λ v u. roomy .bits v c u l) (omega arith))))
+        (keep-ready h (weight bit m c) g next)
+
+    end-reads : Each (λ i. Each (Held 0) (uses i .reads)) (end k)
+    unfolding end
+    end-reads = ((omega arith, tt), each-blocks (λ i. Each (Held 0) (uses i .reads)) tell k (λ t l. ((omega arith, tt), tt)))
+
+    -- whatever is live at the end, H and each V are written
+    pub written-first : Ready none (begin k ++ blocks n (column k m bit) ++ end k) none
+    unfolding liveBefore
+    written-first =
+        let live : ℕ → ℕ = liveBefore bit m in
+        ready-less (begin k ++ blocks n (column k m bit) ++ end k) none (Held 0) none (λ r x. absurd x)
+        (ready-append (begin k ++ blocks n (column k m bit)) (end k) none (Held (live n)) (Held 0)
+        (ready-append (begin k) (blocks n (column k m bit)) none (Held 1) (Held (live n)) begin-ready
+        (ready-blocks (λ c. Held (live c)) (column k m bit) n column-ready))
+        (ready-more (end k) (Held 0) (Held (live n)) (Held 0) (λ r x. omega arith) (ready-stay (Held 0) (end k) end-reads)))

@@ -1,0 +1,62 @@
+-- Demand 2: each lane of a compiled program answers as the Knuth-Yao walk does on that lane's bits, whatever the other lanes, the earlier contents of
+-- the working words, and stops that are resumed as left. Assumes nothing.
+use Prim.Native.Nat.{ℕ, _+_, _^_, _≤_, _<_}
+use mathlib.Core.Path.{_≡_, refl, sym, _∙_}
+use mathlib.Core.List.{List}
+use lib.ListN.{length, getD, take}
+use lib.Seq.{take-at}
+use Rattle.laws.specs.Lay.{lay}
+use Rattle.laws.specs.Outcome.{gives, mapped, _>>=_}
+use Rattle.files.specs.Matrix.{Matrix}
+use Rattle.files.specs.Files.{matrixOf}
+use Rattle.files.specs.RoundTrip.{read-accepted}
+use Rattle.machine.specs.Meaning.{words}
+use Rattle.machine.specs.Checks.{checkOf}
+use Rattle.machine.specs.Runs.{startOf}
+use Rattle.machine.specs.Resuming.{started, onward, start-onward, together, total}
+use Rattle.walk.specs.Walk.{drawn, answerOf}
+use Rattle.lanes.specs.Slicing.{lanes}
+use Rattle.lanes.specs.Samples.{sampleOf}
+use Rattle.compiler.specs.Translation.{program, compiled, translation, rowBits}
+use Rattle.compiler.specs.Compiled.{compiled-accepted}
+use Rattle.engine.specs.Lanewise.{laneBits, ended, start-is, long, lane-draws}
+
+front-is : (n : ℕ) (xs buf : List ℕ) → length xs ≡ n → take n (lay xs buf) ≡ xs
+unfolding lay
+front-is n xs buf e = take-at xs (lib.ListN.drop (length xs) buf) n e
+
+outputs-are : (M : Matrix) → program M .outputs ≡ 1 + rowBits (M .rows)
+unfolding program
+outputs-are M = refl
+
+module _ (file : List ℕ) (M : Matrix) (e : matrixOf file ≡ gives M) where
+  -- what compile writes is always an accepted program
+  pub compiled-is-accepted : checkOf (compiled M) ≡ gives (record { program = program M; instructions = translation M })
+  compiled-is-accepted = compiled-accepted M (read-accepted file M e)
+
+  module _ (inputs registers outputs : List ℕ) (small : (i : ℕ) → getD inputs i 0 < 2 ^ lanes) (i : program M .inputs ≤ length inputs)
+      (r : program M .registers ≤ length registers) (o : program M .outputs ≤ length outputs) where
+    -- started on n or more words, with anything in registers and outputs before and any budget not below the count: lane j of the outputs gives the
+    -- row that the walk on lane j's bits hits, or misses where it misses
+    pub demand-2 : (budget j : ℕ) → program M .count ≤ budget → j < lanes →
+        mapped (λ x. sampleOf (x .state .outputs) j) (startOf (compiled M) inputs registers outputs budget) ≡
+        gives (answerOf (drawn M (laneBits (M .columns) inputs j)))
+    demand-2 budget j enough jl = lane-draws M (read-accepted file M e) inputs registers outputs budget j jl small i r o enough
+
+    -- the same after any stops that are resumed as left: what the caller's buffer holds in the end, where the budgets together are not below the count
+    pub demand-2-stops : (b : ℕ) (bs : List ℕ) (j : ℕ) → b < 2 ^ 32 → program M .count ≤ together b (total bs) → j < lanes →
+        mapped (λ x. sampleOf (take (program M .outputs) (x .outputs)) j)
+        (started words (compiled M) inputs registers outputs b >>= (λ l. onward words (compiled M) inputs l bs)) ≡
+        gives (answerOf (drawn M (laneBits (M .columns) inputs j)))
+    demand-2-stops b bs j h enough jl =
+        let a = read-accepted file M e in
+        let budget : ℕ = together b (total bs) in
+        let left = ended M a inputs registers outputs budget j jl small i r o enough .state .outputs in
+        let front : take (program M .outputs) (lay left outputs) ≡ left =
+        front-is (program M .outputs) left outputs (long M a inputs registers outputs budget j jl small i r o enough ∙ sym (outputs-are M)) in
+        rw (
+          start-onward words (compiled M) inputs registers outputs b bs h,
+          start-is M a inputs registers outputs budget j jl small i r o enough,
+          front,
+        )
+        (rw (start-is M a inputs registers outputs budget j jl small i r o enough) at (demand-2 budget j enough jl))
