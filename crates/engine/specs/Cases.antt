@@ -1,12 +1,12 @@
 -- 01, "Checked by hand": the cases that are proved, in one table, proved as a whole. Assumes nothing.
 use Prim.Native.Nat.{ℕ}
 use mathlib.Core.Path.{_≡_, refl, ap, ap₂}
-use mathlib.Core.Bool.{Bool, true, false, _&&_}
+use mathlib.Core.Bool.{Bool, true, false, _&&_, cond}
 use mathlib.Core.List.{List, [], _∷_}
 use native.Mathlib.Omega.{arith}
 use borrow.Author.Tests.{eqb-true}
 use lib.Dec.{eqb}
-use lib.ListN.{length}
+use lib.ListN.{length, replicate}
 use Rattle.laws.specs.Sums.{sumTo, any}
 use Rattle.laws.specs.Digits.{number, digit}
 use Rattle.laws.specs.Lay.{blocks, upto}
@@ -16,6 +16,16 @@ use Rattle.files.specs.Matrix.{bit, p, total}
 use Rattle.files.specs.Files.{fileLength, headerBytes, matrixFile, headerOf, unpacked, bodyOf, matrixOf, readOf, writeOf}
 use Rattle.files.specs.Strings.{stringsOf}
 use Rattle.files.specs.Weights.{sum, share, built, buildOf}
+use Rattle.programs.specs.Records.{recordBytes}
+use Rattle.programs.specs.Instructions.{instructionBytes, decodeOf, sizedOf}
+use Rattle.programs.specs.Header.{codeBytes, programFile, headerOf as programHeaderOf, headerBytes as programHeader, numbersOf as programNumbers}
+use Rattle.machine.specs.Meaning.{exec}
+use Rattle.machine.specs.Checks.{checkOf, codeOf, instructionOf, also}
+use Rattle.machine.specs.Runs.{startOf, startOn, runOf}
+use Rattle.machine.specs.Listing.{listed, listing}
+use Rattle.machine.specs.declared.runs.Run.{Run}
+use Rattle.compiler.specs.Translation.{bitsToWrite, rowBits, begin, split, ifSet, mark, met, marks, keep, end, liveBefore, column, translation, program, compiled, compileOf}
+use Rattle.files.specs.Live.{weight}
 use Rattle.walk.specs.Walk.{Drawn, hit, miss, at, scan, then, walk, drawn, walkOf}
 use Rattle.files.specs.declared.weights.Usage.{Usage}
 use Rattle.files.specs.declared.weights.Usage.the-variants.{Plain}
@@ -32,6 +42,10 @@ pub data Case : Type 0 where
   walks : List ℕ → List ℕ → Outcome (List ℕ) → Case
   -- the walk of what is built from weights and columns, on a packed string
   builds-walks : Usage → List ℕ → ℕ → List ℕ → Outcome (List ℕ) → Case
+  -- a matrix file, and the program that it is compiled to
+  compiles : List ℕ → Outcome (List ℕ) → Case
+  -- a matrix file and a budget, and what the start of its program answers: 1 for finished or 0 for stopped, position and count
+  starts : List ℕ → ℕ → Outcome (List ℕ) → Case
 
 pub cases : List Case
 cases =
@@ -46,6 +60,11 @@ cases =
     -- one row 1, one column: string 0 gives 0, string 1 misses
     ∷ walks (0x09 ∷ 0 ∷ 0x20 ∷ 0 ∷ 1 ∷ 0 ∷ 1 ∷ 0 ∷ 0x80 ∷ []) (0x00 ∷ []) (gives (0 ∷ []))
     ∷ walks (0x09 ∷ 0 ∷ 0x20 ∷ 0 ∷ 1 ∷ 0 ∷ 1 ∷ 0 ∷ 0x80 ∷ []) (0x80 ∷ []) (gives [])
+    -- the listing of rows 1, 1 of one column
+    ∷ compiles (0x0a ∷ 0 ∷ 0x20 ∷ 0 ∷ 2 ∷ 0 ∷ 1 ∷ 0 ∷ 0x80 ∷ 0x80 ∷ []) (gives (programFile listed listing))
+    -- that program with budget 12 finishes, with 11 it stops at 11
+    ∷ starts (0x0a ∷ 0 ∷ 0x20 ∷ 0 ∷ 2 ∷ 0 ∷ 1 ∷ 0 ∷ 0x80 ∷ 0x80 ∷ []) 12 (gives (1 ∷ 12 ∷ 12 ∷ []))
+    ∷ starts (0x0a ∷ 0 ∷ 0x20 ∷ 0 ∷ 2 ∷ 0 ∷ 1 ∷ 0 ∷ 0x80 ∷ 0x80 ∷ []) 11 (gives (0 ∷ 11 ∷ 11 ∷ []))
     -- rows 10, 10, 01: refusal 6
     ∷ writes 3 2 (1 ∷ 0 ∷ 1 ∷ 0 ∷ 0 ∷ 1 ∷ []) (refused 6)
     ∷ reads (0x0b ∷ 0 ∷ 0x20 ∷ 0 ∷ 3 ∷ 0 ∷ 2 ∷ 0 ∷ 0x80 ∷ 0x80 ∷ 0x40 ∷ []) (refused 6)
@@ -64,6 +83,10 @@ rowOf : Drawn → List ℕ
 rowOf (hit v c) = v ∷ []
 rowOf miss = []
 
+-- a run's answer in numbers
+numbersOf : Run → List ℕ
+numbersOf r = cond (r .finished) 1 0 ∷ r .position ∷ r .count ∷ []
+
 -- what the operation comes to
 pub comes : Case → Outcome (List ℕ)
 comes (writes m n entries o) = writeOf m n entries (fileLength m n)
@@ -72,6 +95,9 @@ comes (builds usage weights n o) = buildOf usage weights n (fileLength (length w
 comes (walks file string o) = mapped rowOf (walkOf file string)
 comes (builds-walks usage weights n string o) =
     buildOf usage weights n (fileLength (length weights) n) >>= λ file. mapped rowOf (walkOf file string)
+comes (compiles file o) = compileOf file 1024
+comes (starts file budget o) =
+    compileOf file 1024 >>= λ program. mapped (λ e. numbersOf (e .answer)) (startOf program (0 ∷ []) (replicate 10 0) (0 ∷ 0 ∷ []) budget)
 
 pub must : Case → Outcome (List ℕ)
 must (writes m n entries o) = o
@@ -79,6 +105,8 @@ must (reads file o) = o
 must (builds usage weights n o) = o
 must (walks file string o) = o
 must (builds-walks usage weights n string o) = o
+must (compiles file o) = o
+must (starts file budget o) = o
 
 -- ---- the test
 same : List ℕ → List ℕ → Bool
@@ -135,5 +163,5 @@ all-come (c ∷ cs) e =
 
 -- ---- the table holds
 pub cases-hold : All-come cases
-unfolding cases comes must all-agree agrees same fieldOf packedBit padded packed spare bit p total headerBytes matrixFile headerOf unpacked bodyOf matrixOf readOf writeOf sum share built buildOf stringsOf rowOf at scan then walk drawn walkOf sumTo any number digit blocks upto
+unfolding cases comes must all-agree agrees same fieldOf packedBit padded packed spare bit p total headerBytes matrixFile headerOf unpacked bodyOf matrixOf readOf writeOf sum share built buildOf stringsOf rowOf at scan then walk drawn walkOf recordBytes instructionBytes decodeOf sizedOf codeBytes programFile programHeaderOf programHeader programNumbers exec checkOf codeOf instructionOf also startOn runOf bitsToWrite rowBits begin split ifSet mark met marks keep end liveBefore column translation program compiled compileOf weight numbersOf sumTo any number digit blocks upto
 cases-hold = all-come cases refl
