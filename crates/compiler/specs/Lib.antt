@@ -1,4 +1,4 @@
--- Definitions first: what a reader compares with 01. Then the laws.
+-- Definitions first: what a reader compares with 01. Then the laws: of the translation, and of the code that writes it.
 pub mod Translation
 pub mod Width
 pub mod Room
@@ -13,3 +13,9 @@ pub mod Columns
 pub mod Lane
 pub mod Computes
 pub mod Starting
+pub mod EmittingWidth
+pub mod Emitting
+pub mod EmittingParts
+pub mod EmittingColumns
+pub mod EmittingSizes
+pub mod EmittingProgram

@@ -14,11 +14,11 @@ use Rattle.compiler.specs.Translation.{regV, regY, clear, begin, apart, 
 use Rattle.compiler.specs.Room.{live-le}
 
 -- the set bits among the k low bits of v
-unfoldable ones : ℕ → ℕ → ℕ
+unfoldable pub ones : ℕ → ℕ → ℕ
 ones k v = sumTo k (λ t. v / 2 ^ t % 2)
 
 -- ---- sums and lengths
-blocks-sum : {A : Type 0} (n : ℕ) (f : ℕ → List A) → length (blocks n f) ≡ sumTo n (λ i. length (f i))
+pub blocks-sum : {A : Type 0} (n : ℕ) (f : ℕ → List A) → length (blocks n f) ≡ sumTo n (λ i. length (f i))
 unfolding blocks sumTo
 blocks-sum zero f = refl
 blocks-sum (suc n) f = omega (arith, length-append (blocks n f) (f n), blocks-sum n f)
@@ -43,7 +43,7 @@ if-length (suc zero) i h = refl
 if-length (suc (suc b)) i h = absurd (omega arith)
 
 module _ (k m : ℕ) where
-  mark-length : (v j : ℕ) → length (mark k m v j) ≡ 1 + ones k v
+  pub mark-length : (v j : ℕ) → length (mark k m v j) ≡ 1 + ones k v
   unfolding mark ones
   mark-length v j =
       omega (
@@ -62,11 +62,11 @@ module _ (k m : ℕ) where
   marks-length bits zero j = omega arith
   marks-length bits (suc r) j = met-length (bits r) r j (sumTo r (λ v. 1 + ones k v)) (λ i. marks k m bits r i) (λ i. marks-length bits r i)
 
-  split-length : (c h : ℕ) → length (split k m c h) ≡ 2 + 2 * h
+  pub split-length : (c h : ℕ) → length (split k m c h) ≡ 2 + 2 * h
   unfolding split
   split-length c h = omega (arith, length-blocks 2 (apart k m) (λ i. refl) h)
 
-  keep-length : (w h : ℕ) → length (keep k m w h) ≡ h
+  pub keep-length : (w h : ℕ) → length (keep k m w h) ≡ h
   unfolding keep
   keep-length w h = omega (arith, length-blocks 1 (carry k m w) (λ i. refl) h)
 
@@ -87,7 +87,7 @@ module _ (k m : ℕ) where
         live-le bit m (suc c) h,
       )
 
-  ends-length : length (begin k) + length (end k) ≡ 3 + 2 * k
+  pub ends-length : length (begin k) + length (end k) ≡ 3 + 2 * k
   unfolding begin end
   ends-length =
       omega (arith, length-blocks 1 clear (λ t. refl) k, length-blocks 1 tell (λ t. refl) k)

@@ -1,0 +1,79 @@
+-- `compiler::compile` meets its contract: the file's checks, then the buffer's against the measured size, then the program is laid. Assumes nothing.
+use borrow.Author.Needs.{needs}
+use native.Mathlib.Omega.{arith}
+use mathlib.Core.Path.{_∙_}
+use Rattle.laws.specs.Lay.{rest-is}
+use Rattle.laws.specs.Outcome.{ends-refused, ends-given}
+use Rattle.files.specs.Checks.{checked-whole}
+use Rattle.compiler.specs.EmittingProgram.{checked-roomy, columns-short, few-instructions, length-is, planned, compile-refused, compile-short, compile-gives}
+use Rattle.compiler.proofs.translating.compile.Statement.{statement}
+use Rattle.compiler.proofs.translating.compile.Tie as tie
+
+check-requires : tie.Need-check-requires
+check-requires c κs = search needs
+
+enum-known-why : tie.Need-enum-known-why
+enum-known-why c = search needs
+
+enum-known-rows : tie.Need-enum-known-rows
+enum-known-rows c = search needs
+
+sub-bytes : tie.Need-sub-bytes
+sub-bytes c = omega (arith, checked-whole _ _ (rw (c .before .rows .given .1) at (c .before .before .before .check .ensures)) .long)
+
+part-bytes-start : tie.Need-part-bytes-start
+part-bytes-start c = omega (arith, checked-whole _ _ (rw (c .before .rows .given .1) at (c .before .before .before .check .ensures)) .long)
+
+part-bytes-end : tie.Need-part-bytes-end
+part-bytes-end c = search needs
+
+row-bits-requires : tie.Need-row-bits-requires
+row-bits-requires c κs = checked-whole _ _ (rw (c .before .before .rows .given .1) at (c .before .before .before .before .check .ensures)) .some-rows
+
+add-count-columns : tie.Need-add-count-columns
+add-count-columns c = record { fits = omega (arith, checked-whole _ _ (rw (c .before .before .before .rows .given .1) at (c .before .before .before .before .before .check .ensures)) .few-columns) }
+
+count-columns-requires : tie.Need-count-columns-requires
+count-columns-requires c κs =
+    let w = checked-whole _ _ (rw (c .before .before .before .rows .given .1) at (c .before .before .before .before .before .check .ensures)) in
+    (w .few-rows, w .few-columns, omega (arith, w .few-columns), checked-roomy _ _ _ (rw (c .before .before .before .rows .given .1) at (c .before .before .before .before .before .check .ensures)) _ (rest-is 8 (c .before .before .before .before .before .before .before .before .args .file .now)))
+
+program-length-requires : tie.Need-program-length-requires
+program-length-requires c κs = (few-instructions _ _ _ (rw (c .before .before .before .before .rows .given .1) at (c .before .before .before .before .before .before .check .ensures)) _ _ _ (rest-is 8 (c .before .before .before .before .before .before .before .before .before .args .file .now)) (c .before .row-bits .ensures) (c .count-columns .ensures), columns-short _ _ _ (rw (c .before .before .before .before .rows .given .1) at (c .before .before .before .before .before .before .check .ensures)) _ _ _ (rest-is 8 (c .before .before .before .before .before .before .before .before .before .args .file .now)) (c .before .row-bits .ensures) (c .count-columns .ensures))
+
+returns : tie.Need-returns
+returns c = ends-refused _ _ _ _ _ (compile-short _ _ _ _ (rw (c .before .before .before .before .before .before .rows .given .1) at (c .before .before .before .before .before .before .before .before .check .ensures)) (omega (arith, c .before .program-length .ensures, length-is _ _ _ (rw (c .before .before .before .before .before .before .rows .given .1) at (c .before .before .before .before .before .before .before .before .check .ensures)) _ _ _ (rest-is 8 (c .before .before .before .before .before .before .before .before .before .before .before .args .file .now)) (c .before .before .before .row-bits .ensures) (c .before .before .count-columns .ensures))))
+
+write-requires : tie.Need-write-requires
+write-requires c κs = planned _ _ _ (rw (c .before .before .before .before .before .before .before .rows .given .1) at (c .before .before .before .before .before .before .before .before .before .check .ensures)) _ _ _ (rest-is 8 (c .before .before .before .before .before .before .before .before .before .before .before .before .args .file .now)) (c .before .before .before .before .row-bits .ensures) (c .before .before .before .count-columns .ensures) _ (omega (arith, c .before .before .program-length .ensures, length-is _ _ _ (rw (c .before .before .before .before .before .before .before .rows .given .1) at (c .before .before .before .before .before .before .before .before .before .check .ensures)) _ _ _ (rest-is 8 (c .before .before .before .before .before .before .before .before .before .before .before .before .args .file .now)) (c .before .before .before .before .row-bits .ensures) (c .before .before .before .count-columns .ensures)))
+
+returns-2 : tie.Need-returns-2
+returns-2 c = ends-refused _ _ _ _ _ (compile-refused _ _ _ (rw (c .before .why .given .1) at (c .before .before .before .check .ensures)))
+
+same-length : tie.Need-same-length
+same-length c = search needs
+
+returns-3 : tie.Need-returns-3
+returns-3 c =
+    ends-given _ _ _ _ _ _ _ (compile-gives _ _ _ _ (rw (c .before .before .before .before .before .before .before .before .before .before .rows .given .1) at (c .before .before .before .before .before .before .before .before .before .before .before .before .check .ensures)) (omega (arith, c .before .before .before .before .before .program-length .ensures, length-is _ _ _ (rw (c .before .before .before .before .before .before .before .before .before .before .rows .given .1) at (c .before .before .before .before .before .before .before .before .before .before .before .before .check .ensures)) _ _ _ (rest-is 8 (c .before .before .before .before .before .before .before .before .before .before .before .before .before .before .before .args .file .now)) (c .before .before .before .before .before .before .before .row-bits .ensures) (c .before .before .before .before .before .before .count-columns .ensures)))) (c .before .before .before .before .before .program-length .ensures ∙ length-is _ _ _ (rw (c .before .before .before .before .before .before .before .before .before .before .rows .given .1) at (c .before .before .before .before .before .before .before .before .before .before .before .before .check .ensures)) _ _ _ (rest-is 8 (c .before .before .before .before .before .before .before .before .before .before .before .before .before .before .before .args .file .now)) (c .before .before .before .before .before .before .before .row-bits .ensures) (c .before .before .before .before .before .before .count-columns .ensures))
+    (rw rest-is at (c .before .before .write .ensures))
+
+pub compile-spec : {M : Type 1} → statement M
+compile-spec =
+    tie.close
+    (tie.spec
+    check-requires
+    enum-known-why
+    enum-known-rows
+    sub-bytes
+    part-bytes-start
+    part-bytes-end
+    row-bits-requires
+    add-count-columns
+    count-columns-requires
+    program-length-requires
+    returns
+    write-requires
+    returns-2
+    same-length
+    returns-3)

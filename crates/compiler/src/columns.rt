@@ -1,0 +1,104 @@
+// The columns of a program (01, "Translation"): m packed rows, row v from byte v * stride on, are read bit by bit.
+ghost use Prim.Native.Nat.{_+_, _*_, _≤_, _<_};
+ghost use lib.ListN.{length};
+ghost use Rattle.laws.specs.Lay.{blocks};
+ghost use Rattle.files.specs.Live.{weight};
+ghost use Rattle.files.specs.Matrix.{most-columns, most-rows};
+ghost use Rattle.compiler.specs.Translation.{column, mark, marks};
+ghost use Rattle.compiler.specs.Room.{Roomy};
+ghost use Rattle.compiler.specs.Emitting.{Emitted, Fit, size};
+ghost use Rattle.compiler.specs.EmittingColumns.{ifMet, Live, packedRows};
+use crate::parts::keep;
+use crate::parts::mark;
+use crate::parts::split;
+use crate::sizes::count_marks;
+use crate::sizes::live_after;
+use files::bit;
+
+// The mark of row v, the set row met j-th, if its bit b is set.
+fn mark_if(b: usize, k: usize, m: usize, v: usize, j: usize, out: &mut [u8], at: usize) -> usize
+    requires { ⌜ (at + size (ifMet b (mark k m v j)) ≤ length (now out)) × Fit k m × (j < m) ⌝ }
+    ensures { λ r. ⌜ Emitted at (ifMet b (mark k m v j)) (now (out .entry)) (now (out .exit)) r ⌝ }
+{
+    if b == 0 {
+        return at;
+    }
+    mark(k, m, v, j, out, at)
+}
+
+// The marks of column c, for its rows from m - 1 down.
+fn marks(
+    bytes: &[u8],
+    stride: usize,
+    k: usize,
+    m: usize,
+    c: usize,
+    out: &mut [u8],
+    at: usize,
+) -> usize
+    requires { ⌜ (at + size (marks k m (λ v. packedRows (now bytes) stride v c) m 0) ≤ length (now out)) × Fit k m × (m ≤ most-rows) × (stride ≤ most-columns) ⌝ }
+    ensures { λ r. ⌜ Emitted at (marks k m (λ v. packedRows (now (bytes .entry)) stride v c) m 0) (now (out .entry)) (now (out .exit)) r ⌝ }
+{
+    let mut to = at;
+    let mut j: usize = 0;
+    for i in 0..m {
+        let v = m - 1 - i;
+        let b = bit(bytes, v * stride, c) as usize;
+        to = mark_if(b, k, m, v, j, out, to);
+        j += b;
+    }
+    to
+}
+
+// The byte behind a column, and the live count after it.
+struct Done {
+    at: usize,
+    live: usize,
+}
+
+// Column c, before which the live count is h.
+fn column(
+    bytes: &[u8],
+    stride: usize,
+    k: usize,
+    m: usize,
+    c: usize,
+    h: usize,
+    out: &mut [u8],
+    at: usize,
+) -> Done
+    requires { ⌜ (at + size (column k m (packedRows (now bytes) stride) c) ≤ length (now out)) × Fit k m × (m ≤ most-rows) × (c < most-columns) × (stride ≤ most-columns) ⌝ }
+    requires { ⌜ Live (packedRows (now bytes) stride) m c h × (weight (packedRows (now bytes) stride) m c ≤ 2 * h) ⌝ }
+    ensures { λ r. ⌜ Emitted at (column k m (packedRows (now (bytes .entry)) stride) c) (now (out .entry)) (now (out .exit)) (r .at) ⌝ }
+    ensures { λ r. ⌜ Live (packedRows (now (bytes .entry)) stride) m (c + 1) (r .live) ⌝ }
+{
+    let w = count_marks(bytes, stride, m, c).rows;
+    let live = live_after(h, w, m);
+    let mut to = split(k, m, c, h, out, at);
+    to = marks(bytes, stride, k, m, c, out, to);
+    to = keep(k, m, w, live, out, to);
+    Done { at: to, live }
+}
+
+// All n columns.
+pub(crate) fn columns(
+    bytes: &[u8],
+    stride: usize,
+    k: usize,
+    m: usize,
+    n: usize,
+    out: &mut [u8],
+    at: usize,
+) -> usize
+    requires { ⌜ (at + size (blocks n (column k m (packedRows (now bytes) stride))) ≤ length (now out)) × Fit k m × (m ≤ most-rows) × (n ≤ most-columns) × (stride ≤ most-columns) × Roomy m n (packedRows (now bytes) stride) ⌝ }
+    ensures { λ r. ⌜ Emitted at (blocks n (column k m (packedRows (now (bytes .entry)) stride))) (now (out .entry)) (now (out .exit)) r ⌝ }
+{
+    let mut h: usize = 1;
+    let mut to = at;
+    for c in 0..n {
+        let done = column(bytes, stride, k, m, c, h, out, to);
+        to = done.at;
+        h = done.live;
+    }
+    to
+}

@@ -1,0 +1,75 @@
+// What a program takes, known before a byte of it is written: k, the live counts, and the number of instructions (01, "Translation").
+ghost use mathlib.Core.Path.{_≡_};
+ghost use Prim.Native.Nat.{_+_, _-_, _*_, _≤_, min};
+ghost use lib.ListN.{length};
+ghost use Rattle.laws.specs.Lay.{blocks};
+ghost use Rattle.files.specs.Matrix.{most-columns, most-rows};
+ghost use Rattle.programs.specs.Limits.{most-instructions};
+ghost use Rattle.programs.specs.Header.{header-length};
+ghost use Rattle.compiler.specs.Translation.{column, rowBits};
+ghost use Rattle.compiler.specs.Room.{Roomy};
+ghost use Rattle.compiler.specs.EmittingColumns.{Counted, packedRows};
+use files::bit;
+use programs::Program;
+
+// k, the bits needed to write m - 1, by counted leading zeros.
+pub(crate) fn row_bits(m: usize) -> usize
+    requires { ⌜ 1 ≤ m ⌝ }
+    ensures { λ r. ⌜ r ≡ rowBits m ⌝ }
+{
+    (64 - usize::leading_zeros(m - 1)) as usize
+}
+
+// The live count after a column with w ones, before which it was h: the smaller of 2h - w and m.
+pub(crate) fn live_after(h: usize, w: usize, m: usize) -> usize
+    requires { ⌜ (h ≤ most-rows) × (w ≤ 2 * h) ⌝ }
+    ensures { λ r. ⌜ r ≡ min (2 * h - w) m ⌝ }
+{
+    let left = 2 * h - w;
+    if m < left { m } else { left }
+}
+
+// The set rows of a column, and the instructions that mark them.
+pub(crate) struct Marks {
+    pub rows: usize,
+    pub instructions: usize,
+}
+
+// Counts column c of m packed rows: each set row v takes one instruction for H and one for each set bit of v.
+pub(crate) fn count_marks(bytes: &[u8], stride: usize, m: usize, c: usize) -> Marks
+    requires { ⌜ (m ≤ most-rows) × (stride ≤ most-columns) ⌝ }
+    ensures { λ r. ⌜ Counted (packedRows (now (bytes .entry)) stride) m c (r .rows) (r .instructions) ⌝ }
+{
+    let mut rows: usize = 0;
+    let mut instructions: usize = 0;
+    for v in 0..m {
+        let b = bit(bytes, v * stride, c) as usize;
+        rows += b;
+        instructions += b * (1 + usize::count_ones(v) as usize);
+    }
+    Marks { rows, instructions }
+}
+
+// The instructions of all n columns of m packed rows.
+pub(crate) fn count_columns(bytes: &[u8], stride: usize, m: usize, n: usize) -> usize
+    requires { ⌜ (m ≤ most-rows) × (n ≤ most-columns) × (stride ≤ most-columns) × Roomy m n (packedRows (now bytes) stride) ⌝ }
+    ensures { λ r. ⌜ r ≡ length (blocks n (column (rowBits m) m (packedRows (now (bytes .entry)) stride))) ⌝ }
+{
+    let mut h: usize = 1;
+    let mut count: usize = 0;
+    for c in 0..n {
+        let marks = count_marks(bytes, stride, m, c);
+        let next = live_after(h, marks.rows, m);
+        count += 2 + 2 * h + marks.instructions + next;
+        h = next;
+    }
+    count
+}
+
+// The bytes of a program whose n columns are `count` instructions: each of those takes 10, but for the INPUT and the NOT of a column, which take 8.
+pub(crate) fn program_length(k: usize, n: usize, count: usize) -> usize
+    requires { ⌜ (3 + 2 * k + count ≤ most-instructions) × (4 * n ≤ 10 * count) ⌝ }
+    ensures { λ r. ⌜ r ≡ header-length + 6 * (2 + k) + 10 * count - 4 * n + 8 * (1 + k) ⌝ }
+{
+    Program::HEADER + 6 * (2 + k) + 10 * count - 4 * n + 8 * (1 + k)
+}
