@@ -1,0 +1,79 @@
+-- `engine::draw` meets its contract: what is read is the front of the words that the batch left. Assumes nothing.
+use borrow.Author.Needs.{needs}
+use native.Mathlib.Omega.{arith}
+use Rattle.laws.specs.Outcome.{ends-refused}
+use Rattle.machine.specs.Answers.{part-long}
+use Rattle.engine.specs.Drawing.{batch-few, drawn-refused, drawn-read}
+use Rattle.engine.proofs.drawing.draw.Statement.{statement}
+use Rattle.engine.proofs.drawing.draw.Tie as tie
+
+slice-aggregate-run-batch : tie.Need-slice-aggregate-run-batch
+slice-aggregate-run-batch c = search needs
+
+run-batch-requires : tie.Need-run-batch-requires
+run-batch-requires c κs = search needs
+
+enum-known-why : tie.Need-enum-known-why
+enum-known-why c = search needs
+
+enum-known-n : tie.Need-enum-known-n
+enum-known-n c = search needs
+
+array-share-prefix-outputs : tie.Need-array-share-prefix-outputs
+array-share-prefix-outputs c =
+    let many = rw (c .before .n .given .1) at (c .before .before .before .before .run-batch .ensures .0) in
+    omega (arith, batch-few _ _ _ _ many)
+
+slice-aggregate-samples : tie.Need-slice-aggregate-samples
+slice-aggregate-samples c =
+    let many = rw (c .before .before .n .given .1) at (c .before .before .before .before .before .run-batch .ensures .0) in
+    part-long _ _ (omega (arith, batch-few _ _ _ _ many))
+
+samples-requires : tie.Need-samples-requires
+samples-requires c κs = search needs
+
+enum-known-why-2 : tie.Need-enum-known-why-2
+enum-known-why-2 c = search needs
+
+enum-told : tie.Need-enum-told
+enum-told c = search needs
+
+returns : tie.Need-returns
+returns c = ends-refused _ _ _ _ _ (drawn-refused _ _ _ _ _ (rw (c .before .why .given .1) at (c .before .before .before .before .run-batch .ensures .0)))
+
+same-length : tie.Need-same-length
+same-length c = search needs
+
+returns-2 : tie.Need-returns-2
+returns-2 c =
+    let many = rw (c .before .before .before .before .before .before .before .before .before .n .given .1) at (c .before .before .before .before .before .before .before .before .before .before .before .before .run-batch .ensures .0) in
+    drawn-read _ _ _ _ _ many _ _ (c .before .before .before .before .before .before .before .before .before .before .before .before .run-batch .ensures .1) _ _ _
+    (rw (c .before .why2 .given .1) at (c .before .before .before .before .before .samples .ensures .0)) (c .before .before .before .before .before .samples .ensures .1)
+
+same-length-2 : tie.Need-same-length-2
+same-length-2 c = search needs
+
+returns-3 : tie.Need-returns-3
+returns-3 c =
+    let many = rw (c .before .before .before .before .before .before .before .before .n .given .1) at (c .before .before .before .before .before .before .before .before .before .before .before .run-batch .ensures .0) in
+    drawn-read _ _ _ _ _ many _ _ (c .before .before .before .before .before .before .before .before .before .before .before .run-batch .ensures .1) _ _ _
+    (rw (c .enum-told .given .1) at (c .before .before .before .before .samples .ensures .0)) (c .before .before .before .before .samples .ensures .1)
+
+pub draw-spec : {M : Type 1} → statement M
+draw-spec =
+    tie.close
+    (tie.spec
+    slice-aggregate-run-batch
+    run-batch-requires
+    enum-known-why
+    enum-known-n
+    array-share-prefix-outputs
+    slice-aggregate-samples
+    samples-requires
+    enum-known-why-2
+    enum-told
+    returns
+    same-length
+    returns-2
+    same-length-2
+    returns-3)

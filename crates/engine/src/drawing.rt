@@ -1,0 +1,98 @@
+// Drawing 64 samples in one call: check, slice, start and read (01, "Runs, words, samples").
+ghost use mathlib.Core.Path.{_≡_};
+ghost use Prim.Native.Nat.{_≤_};
+ghost use lib.ListN.{length};
+ghost use Rattle.laws.specs.Lay.{lay};
+ghost use Rattle.laws.specs.Outcome.{laid, mapped, refused};
+ghost use Rattle.files.specs.Refusal.{numberOf};
+ghost use Rattle.programs.specs.Limits.{most-outputs};
+ghost use Rattle.engine.specs.Drawing.{afterOwn, batched, batchOf, drawn, drawOf, drawSignedOf};
+use files::Refusal;
+use lanes::LANES;
+use lanes::Sampled;
+use lanes::Sliced;
+use lanes::slice;
+use machine::Ran;
+use machine::check;
+use machine::start;
+use programs::Checked;
+use programs::Program;
+use programs::read_header;
+
+// A refusal, or that the samples of all lanes are laid down.
+pub enum Drawn {
+    Refused(Refusal),
+    All,
+}
+
+// A refusal, or how many outputs a batch has left.
+enum Batch {
+    Refused(Refusal),
+    Outputs(usize),
+}
+
+// The program's own refusal where it has one, and otherwise another.
+fn first_refusal(program: &[u8], other: Refusal) -> Refusal
+    ensures { λ r. ⌜ refused (numberOf r) ≡ afterOwn (now (program .entry)) (numberOf other) ⌝ }
+{
+    match check(program) {
+        Checked::Refused(why) => why,
+        Checked::Program(_) => other,
+    }
+}
+
+// Runs a program on 64 strings, on words of its own: the outputs are laid at the front of `outputs`. A sound program is checked once, by its start.
+fn run_batch(program: &[u8], strings: &[u8], room: usize, outputs: &mut [u64]) -> Batch
+    requires { ⌜ most-outputs ≤ length (now outputs) ⌝ }
+    ensures { λ r. ⌜ batched r ≡ mapped length (batchOf (now (program .entry)) (now (strings .entry)) room) ⌝ }
+    ensures { λ r. ⌜ now (outputs .exit) ≡ lay (laid (λ xs. xs) (batchOf (now (program .entry)) (now (strings .entry)) room)) (now (outputs .entry)) ⌝ }
+{
+    let p = match read_header(program) {
+        Checked::Refused(why) => return Batch::Refused(why),
+        Checked::Program(p) => p,
+    };
+    let mut words = [0u64; Program::INPUTS];
+    match slice(p.inputs, strings, &mut words) {
+        Sliced::Refused(why) => return Batch::Refused(first_refusal(program, why)),
+        Sliced::Words(_) => {}
+    }
+    if room < LANES {
+        return Batch::Refused(first_refusal(program, Refusal::Buffer));
+    }
+    let mut registers = [0u64; Program::REGISTERS];
+    match start(program, &words, &mut registers, outputs, p.count) {
+        Ran::Refused(why) => Batch::Refused(why),
+        Ran::Done(_) => Batch::Outputs(p.outputs),
+    }
+}
+
+// Draws 64 samples: runs the program on 64 strings, one after another, of as many bits as its header has inputs, and lays the samples at the front of
+// `samples`; or a refusal of the program, 13 or 5 for the strings, then 13 for the samples.
+pub fn draw(program: &[u8], strings: &[u8], samples: &mut [u8]) -> Drawn
+    ensures { λ r. ⌜ drawn r ≡ mapped (λ xs. tt) (drawOf (now (program .entry)) (now (strings .entry)) (length (now (samples .entry)))) ⌝ }
+    ensures { λ r. ⌜ now (samples .exit) ≡ lay (laid (λ xs. xs) (drawOf (now (program .entry)) (now (strings .entry)) (length (now (samples .entry))))) (now (samples .entry)) ⌝ }
+{
+    let mut outputs = [0u64; Program::OUTPUTS];
+    match run_batch(program, strings, samples.len(), &mut outputs) {
+        Batch::Refused(why) => Drawn::Refused(why),
+        Batch::Outputs(n) => match lanes::samples(&outputs[..n], samples) {
+            Sampled::Refused(why) => Drawn::Refused(why),
+            Sampled::All => Drawn::All,
+        },
+    }
+}
+
+// Draws 64 signed samples, with a sign word; refusals as for `draw`.
+pub fn draw_signed(program: &[u8], strings: &[u8], sign: u64, samples: &mut [i16]) -> Drawn
+    ensures { λ r. ⌜ drawn r ≡ mapped (λ xs. tt) (drawSignedOf (now (program .entry)) (now (strings .entry)) sign (length (now (samples .entry)))) ⌝ }
+    ensures { λ r. ⌜ now (samples .exit) ≡ lay (laid (λ xs. xs) (drawSignedOf (now (program .entry)) (now (strings .entry)) sign (length (now (samples .entry))))) (now (samples .entry)) ⌝ }
+{
+    let mut outputs = [0u64; Program::OUTPUTS];
+    match run_batch(program, strings, samples.len(), &mut outputs) {
+        Batch::Refused(why) => Drawn::Refused(why),
+        Batch::Outputs(n) => match lanes::signed_samples(&outputs[..n], sign, samples) {
+            Sampled::Refused(why) => Drawn::Refused(why),
+            Sampled::All => Drawn::All,
+        },
+    }
+}
