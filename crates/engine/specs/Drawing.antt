@@ -1,8 +1,8 @@
 -- Drawing in one call, beyond what 01 lists: a program is checked, 64 strings are sliced, the program is started on words of the engine's own, and its
 -- outputs are read. Assumes nothing.
-use Prim.Native.Nat.{ℕ, zero, suc, _≤_, _<_}
-use mathlib.Core.Path.{_≡_, refl, sym, ap, _∙_}
-use mathlib.Core.List.{List, [], _∷_, _++_}
+use Prim.Native.Nat.{ℕ, _≤_, _<_}
+use mathlib.Core.Path.{_≡_, refl, sym, ap, _∙_, subst}
+use mathlib.Core.List.{List, _++_}
 use native.Mathlib.Omega.{arith}
 use borrow.Author.Tests.{lt-ltb, le-ltb, ltb-false}
 use lib.Dec.{ltb}
@@ -18,15 +18,13 @@ use Rattle.programs.specs.Header.{headerOf}
 use Rattle.programs.specs.Reading.{Within, within-means}
 use Rattle.programs.specs.Inverse.{header-reads}
 use Rattle.programs.specs.declared.description.Program.{Program}
-use Rattle.programs.specs.declared.description.Instruction.{Instruction}
-use Rattle.programs.specs.declared.description.Instruction.the-variants.{Ones, Zero, Input, Not, And, Or, Output}
-use Rattle.machine.specs.Meaning.{Gates, words, State, step, exec}
+use Rattle.machine.specs.Meaning.{Gates, words}
 use Rattle.machine.specs.Checks.{Code, checkOf}
-use Rattle.machine.specs.Runs.{Ended, steps, runOf, startOn, startOf}
+use Rattle.machine.specs.Runs.{Ended, runOf, startOn, startOf}
 use Rattle.machine.specs.Checking.{check-refused}
-use Rattle.machine.specs.Accepting.{Each, Fits}
-use Rattle.machine.specs.Encoding.{check-says, accepted-sound}
-use Rattle.machine.specs.Resuming.{Room, cleared, start-is, admitted-gives, exec-long}
+use Rattle.machine.specs.Encoding.{check-says}
+use Rattle.machine.specs.LaneLaw.{start-inputs, start-forgets-enough}
+use Rattle.machine.specs.Resuming.{Room, Enough, cleared, start-is, admitted-gives, exec-long}
 use Rattle.machine.specs.declared.runs.Run.{Run}
 use Rattle.lanes.specs.Slicing.{lanes, sliceOf, wordOf}
 use Rattle.lanes.specs.Samples.{samplesOf, signedSamplesOf}
@@ -72,50 +70,31 @@ batched (Batch.Refused why) = refused (numberOf why)
 batched (Batch.Outputs n) = gives n
 
 -- ---- a start takes of what is lent no word but the program's inputs
-each-first : {A : Type 0} (P : A → Type 0) (n : ℕ) (xs : List A) → Each P xs → Each P (take n xs)
-each-first P zero xs e = tt
-each-first P (suc n) [] e = tt
-each-first P (suc n) (x ∷ xs) e = (e .0, each-first P n xs (e .1))
+enough-of : {A : Type 0} (file : List ℕ) (c : Code) → checkOf file ≡ gives c → (inputs registers outputs : List A) → Room (c .program) inputs registers outputs →
+    Enough file inputs registers outputs
+enough-of file c ok inputs registers outputs room d e = subst (λ (x : Code). Room (x .program) inputs registers outputs) (gives-inj (sym ok ∙ e)) room
 
-module _ {A : Type 0} (G : Gates A) (p : Program) (inputs other : List A)
-    (same : (k : ℕ) → k < p .inputs → getD inputs k (G .zeros) ≡ getD other k (G .zeros)) where
-  step-agrees : (i : Instruction) (s : State A) → Fits p i → step G inputs i s ≡ step G other i s
-  step-agrees (Ones to) s f = refl
-  step-agrees (Zero to) s f = refl
-  step-agrees (Input to n) s f = rw (same n (f .2 .0))
-  step-agrees (Not to a) s f = refl
-  step-agrees (And to a b) s f = refl
-  step-agrees (Or to a b) s f = refl
-  step-agrees (Output o a) s f = refl
+-- a start with room enough is a run of the program's instructions from cleared words
+start-runs : {A : Type 0} (G : Gates A) (file : List ℕ) (c : Code) (ok : checkOf file ≡ gives c) (budget : ℕ) (inputs registers outputs : List A) →
+    Room (c .program) inputs registers outputs →
+    startOn G file inputs registers outputs budget ≡ gives (runOf G (c .instructions) inputs 0 budget (cleared G (c .program)))
+start-runs G file c ok budget inputs registers outputs room =
+    rw (
+      start-is G file inputs registers outputs budget,
+      admitted-gives G file inputs registers outputs 0 c (record { accepted = ok; before-end = omega arith; room = room }),
+    )
 
-  exec-agrees : (is : List Instruction) (s : State A) → Each (Fits p) is → exec G inputs is s ≡ exec G other is s
-  unfolding exec
-  exec-agrees [] s f = refl
-  exec-agrees (i ∷ is) s f = rw (step-agrees i s (f .0)) (exec-agrees is (step G other i s) (f .1))
-
-  run-agrees : (is : List Instruction) (budget : ℕ) (s : State A) → Each (Fits p) is → runOf G is inputs 0 budget s ≡ runOf G is other 0 budget s
-  unfolding runOf
-  run-agrees is budget s f =
-      rw (exec-agrees (take (steps budget 0 (length is)) is) s (each-first (Fits p) (steps budget 0 (length is)) is f))
-
-module _ {A : Type 0} (G : Gates A) (file : List ℕ) (c : Code) (ok : checkOf file ≡ gives c) (budget : ℕ) where
-  pub start-runs : (inputs registers outputs : List A) → Room (c .program) inputs registers outputs →
-      startOn G file inputs registers outputs budget ≡ gives (runOf G (c .instructions) inputs 0 budget (cleared G (c .program)))
-  start-runs inputs registers outputs room =
-      rw (
-        start-is G file inputs registers outputs budget,
-        admitted-gives G file inputs registers outputs 0 c (record { accepted = ok; before-end = omega arith; room = room }),
-      )
-
-  -- with any registers and outputs that are long enough, and inputs that agree on those of the program, it comes to the same
-  pub start-agrees : (inputs registers outputs inputs′ registers′ outputs′ : List A) → Room (c .program) inputs registers outputs →
-      Room (c .program) inputs′ registers′ outputs′ →
-      ((k : ℕ) → k < c .program .inputs → getD inputs k (G .zeros) ≡ getD inputs′ k (G .zeros)) →
-      startOn G file inputs registers outputs budget ≡ startOn G file inputs′ registers′ outputs′ budget
-  start-agrees inputs registers outputs inputs′ registers′ outputs′ room room′ same =
-      start-runs inputs registers outputs room ∙
-      (ap gives (run-agrees G (c .program) inputs inputs′ same (c .instructions) budget (cleared G (c .program)) (accepted-sound file c ok .in-range)) ∙
-      sym (start-runs inputs′ registers′ outputs′ room′))
+-- with any registers and outputs that are long enough, and inputs that agree on those of the program, it comes to the same
+start-agrees : {A : Type 0} (G : Gates A) (file : List ℕ) (c : Code) (ok : checkOf file ≡ gives c) (budget : ℕ)
+    (inputs registers outputs inputs′ registers′ outputs′ : List A) → Room (c .program) inputs registers outputs →
+    Room (c .program) inputs′ registers′ outputs′ → ((k : ℕ) → k < c .program .inputs → getD inputs k (G .zeros) ≡ getD inputs′ k (G .zeros)) →
+    startOn G file inputs registers outputs budget ≡ startOn G file inputs′ registers′ outputs′ budget
+start-agrees G file c ok budget inputs registers outputs inputs′ registers′ outputs′ room room′ same =
+    start-inputs G file c ok inputs inputs′ same registers outputs (room .for-inputs) (room′ .for-inputs) budget ∙
+    start-forgets-enough G file inputs′ registers outputs registers′ outputs′ budget
+    (enough-of file c ok inputs′ registers outputs
+    (record { for-inputs = room′ .for-inputs; for-registers = room .for-registers; for-outputs = room .for-outputs }))
+    (enough-of file c ok inputs′ registers′ outputs′ room′)
 
 -- ---- a drawing is a batch, then its outputs read
 bind-after : {A B C : Type 0} (o : Outcome A) (k : A → Outcome B) (h : B → Outcome C) (l : A → Outcome C) → ((a : A) → l a ≡ (k a >>= h)) →

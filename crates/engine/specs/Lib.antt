@@ -5,4 +5,5 @@ pub mod Lanewise
 pub mod Demand2
 pub mod Demand3
 pub mod Batches
+pub mod Draws
 pub mod Cases
