@@ -5,12 +5,11 @@ use mathlib.Core.Bool.{Bool, true, false, not, _||_}
 use mathlib.Core.List.{List, [], _∷_, _++_}
 use native.Mathlib.Omega.{arith}
 use borrow.Author.Tests.{le-ltb, lt-ltb, ltb-false, not-false}
-use lib.Dec.{eqb, ltb}
+use lib.Dec.{ltb}
 use lib.ListN.{length, take, drop, replicate, length-set, length-take, length-replicate}
 use Rattle.laws.specs.Sums.{any}
 use Rattle.laws.specs.Lay.{lay, lay-nothing}
 use Rattle.laws.specs.Outcome.{Outcome, refused, gives, refuse, _>>_, _>>=_, passed, bound, gives-inj, mapped, laid, mapped-gives, mapped-refused}
-use Rattle.programs.specs.Limits.{within}
 use Rattle.programs.specs.Instructions.{uses, lengthOf, decodeOf}
 use Rattle.programs.specs.Header.{header-length, headerOf}
 use Rattle.programs.specs.declared.description.Program.{Program}
@@ -18,8 +17,8 @@ use Rattle.programs.specs.declared.description.Instruction.{Instruction}
 use Rattle.programs.specs.declared.description.Instruction.the-variants.{Ones, Zero, Input, Not, And, Or, Output}
 use Rattle.machine.specs.Meaning.{Gates, words, State, step, exec}
 use Rattle.machine.specs.Checks.{Code, every, also, inRange, instructionOf, codeOf, nothing, checkOf}
-use Rattle.machine.specs.Runs.{Ended, steps, answerOf, runOf, roomFor, startOn, resumeOn, startOf, resumeOf}
-use Rattle.machine.specs.Standing.{InRange, onGives, readOf, Formed}
+use Rattle.machine.specs.Runs.{Ended, steps, runOf, roomFor, startOn, resumeOn, startOf, resumeOf}
+use Rattle.machine.specs.Standing.{readOf, Formed}
 use Rattle.machine.specs.Turns.{state, Ends}
 use Rattle.machine.specs.Checking.{range-means, range-wider}
 use Rattle.machine.specs.declared.runs.Run.{Run}

@@ -12,19 +12,19 @@ use lib.Dec.{ltb, eqb}
 use lib.ListN.{length, getD, set, drop, length-drop, length-set, replicate, length-replicate}
 use lib.Seq.{drop-drop, getD-set-same, getD-set-other}
 use Rattle.laws.specs.Sums.{any}
-use Rattle.laws.specs.Outcome.{Outcome, refused, gives, refuse, _>>_, _>>=_, mapped}
+use Rattle.laws.specs.Outcome.{Outcome, refused, gives, _>>_, _>>=_, mapped}
 use Rattle.files.specs.Fields.{fieldOf}
 use Rattle.files.specs.Refusal.{numberOf}
 use Rattle.programs.specs.Limits.{most-registers, most-inputs, most-outputs, within, unwritten, unset}
-use Rattle.programs.specs.Instructions.{uses, lengthOf, ofKind, sizedOf, decodeOf, decodeAt}
+use Rattle.programs.specs.Instructions.{uses, lengthOf, ofKind, sizedOf, decodeAt}
 use Rattle.programs.specs.Header.{header-length, headerOf}
-use Rattle.programs.specs.Reading.{both, Within, within-means, decode-as}
-use Rattle.programs.specs.Inverse.{field-drop, length-some, decode-reads, HeaderReads, header-reads}
+use Rattle.programs.specs.Reading.{both, within-means, decode-as}
+use Rattle.programs.specs.Inverse.{field-drop, length-some, header-reads}
 use Rattle.programs.specs.declared.description.Program.{Program}
 use Rattle.programs.specs.declared.description.Instruction.{Instruction}
 use Rattle.programs.specs.declared.description.Instruction.the-variants.{Ones, Zero, Input, Not, And, Or, Output}
 use Rattle.machine.specs.Checks.{Code, every, also, inRange, instructionOf, codeOf, nothing, checkOf}
-use Rattle.machine.specs.Standing.{InRange, Stands, reads-stands}
+use Rattle.machine.specs.Standing.{InRange, reads-stands}
 use Rattle.machine.specs.declared.checking.Admitted.{Admitted}
 use Rattle.machine.specs.declared.checking.Admitted.the-variants as Admitted
 

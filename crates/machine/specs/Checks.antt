@@ -5,7 +5,7 @@ use mathlib.Core.List.{List, [], _∷_}
 use lib.Dec.{eqb, ltb}
 use lib.ListN.{length, drop}
 use Rattle.laws.specs.Sums.{any}
-use Rattle.laws.specs.Outcome.{Outcome, refused, gives, refuse, _>>_, _>>=_}
+use Rattle.laws.specs.Outcome.{Outcome, gives, refuse, _>>_, _>>=_}
 use Rattle.programs.specs.Instructions.{uses, lengthOf, decodeOf}
 use Rattle.programs.specs.Header.{header-length, headerOf}
 use Rattle.programs.specs.declared.description.Program.{Program}

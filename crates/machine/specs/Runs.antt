@@ -1,6 +1,5 @@
 -- 01, "Runs, words, samples": what a start and a resume come to. Assumes nothing.
 use Prim.Native.Nat.{ℕ, _+_, _-_, min}
-use mathlib.Core.Bool.{Bool}
 use mathlib.Core.List.{List}
 use lib.Dec.{eqb, ltb}
 use lib.ListN.{length, take, drop, replicate}
@@ -9,7 +8,7 @@ use Rattle.files.specs.Refusal.{numberOf}
 use Rattle.programs.specs.declared.description.Program.{Program}
 use Rattle.programs.specs.declared.description.Instruction.{Instruction}
 use Rattle.machine.specs.Meaning.{Gates, words, State, exec}
-use Rattle.machine.specs.Checks.{Code, checkOf}
+use Rattle.machine.specs.Checks.{checkOf}
 use Rattle.machine.specs.declared.runs.Run.{Run}
 use Rattle.machine.specs.declared.runs.Ran.{Ran}
 use Rattle.machine.specs.declared.runs.Ran.the-variants as Ran

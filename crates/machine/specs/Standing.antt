@@ -1,15 +1,16 @@
 -- Where instructions stand in bytes, for code that goes through them by kind and length. Assumes nothing.
 use Prim.Native.Nat.{ℕ, zero, suc, _+_, _-_, _≤_, _<_}
-use mathlib.Core.Path.{_≡_, refl, sym, ap, _∙_}
+use mathlib.Core.Path.{_≡_, refl, sym, _∙_}
 use mathlib.Core.List.{List, [], _∷_}
-use native.Mathlib.Nat.{not-suc-le-zero, le-of-suc-le-suc}
+use mathlib.Core.Logic.{⊎-elim}
+use native.Mathlib.Nat.{eq-or-lt-of-le, not-suc-le-zero, le-of-suc-le-suc}
 use native.Mathlib.Omega.{arith}
 use lib.ListN.{length, drop, length-drop}
 use lib.Seq.{drop-drop}
 use Rattle.laws.specs.Outcome.{Outcome, refused, gives, gives-inj}
 use Rattle.files.specs.Fields.{fieldOf}
 use Rattle.programs.specs.Instructions.{kindOf, lengthOf, ofKind, decodeOf}
-use Rattle.programs.specs.Inverse.{field-drop, length-some, Reads, decode-reads, named-kind}
+use Rattle.programs.specs.Inverse.{field-drop, length-some, decode-reads, named-kind}
 use Rattle.programs.specs.declared.description.Instruction.{Instruction}
 use Rattle.programs.specs.declared.description.Instruction.the-variants.{Ones, Zero, Input, Not, And, Or, Output}
 
@@ -90,6 +91,11 @@ module _ (n : ℕ) (bytes : List ℕ) (i : Instruction) (e : decodeOf bytes ≡ 
   pub formed-first : (nr ni nq : ℕ) → Formed (suc n) nr ni nq bytes → InRange nr ni nq i × Formed n nr ni nq (drop (lengthOf i) bytes)
   unfolding Formed
   formed-first nr ni nq h = rw e at h
+
+pub formed-next : (n nr ni nq : ℕ) (file : List ℕ) (at : ℕ) (i : Instruction) → decodeOf (drop at file) ≡ gives i →
+    Formed (suc n) nr ni nq (drop at file) → Formed n nr ni nq (drop (at + lengthOf i) file)
+formed-next n nr ni nq file at i e f =
+    rw (drop-drop (lengthOf i) at file) at (formed-first n (drop at file) i e nr ni nq f .1)
 
 pub formed-ready : (n nr ni nq : ℕ) (file : List ℕ) (at : ℕ) → Formed (suc n) nr ni nq (drop at file) → Ready file at nr ni nq
 unfolding Formed
@@ -187,3 +193,76 @@ module _ (file : List ℕ) (at nr ni nq : ℕ) (r : Ready file at nr ni nq) wher
     -- all but ONES and ZERO have a second operand
     pub second-room : (k ≡ 1 → ⊥) → (k ≡ 2 → ⊥) → at + 8 ≤ length file
     second-room n1 n2 = omega (arith, r .stands .room, long-kind k (r .i) kind-is n1 n2)
+
+-- ---- four gates of one kind, one after another
+pub record Four (file : List ℕ) (at kind : ℕ) : Type 0 where
+  pub first : fieldOf file (at + 2) ≡ kind
+  pub second : fieldOf file (at + 12) ≡ kind
+  pub third : fieldOf file (at + 22) ≡ kind
+  pub fourth : fieldOf file (at + 32) ≡ kind
+
+module _ (nr ni nq : ℕ) (file : List ℕ) (kind : ℕ) (low : 5 ≤ kind) (high : kind ≤ 6) where
+  -- what a gate's kind says of its place and of what follows
+  pub gate-first : (n at : ℕ) → Formed (suc n) nr ni nq (drop at file) → fieldOf file (at + 2) ≡ kind →
+      Gate file at nr × Formed n nr ni nq (drop (at + 10) file)
+  gate-first n at f k =
+      let r = formed-ready n nr ni nq file at f in
+      ⊎-elim
+      (λ (e : 5 ≡ kind).
+      let s = is-and file at nr ni nq r (fieldOf file (at + 2)) refl (k ∙ sym e) in
+      (s .1, formed-next n nr ni nq file at (And (fieldOf file (at + 4)) (fieldOf file (at + 6)) (fieldOf file (at + 8))) (s .0 .reads) f))
+      (λ (e : 5 < kind).
+      let six : kind ≡ 6 = omega arith in
+      let s = is-or file at nr ni nq r (fieldOf file (at + 2)) refl (k ∙ six) in
+      (s .1, formed-next n nr ni nq file at (Or (fieldOf file (at + 4)) (fieldOf file (at + 6)) (fieldOf file (at + 8))) (s .0 .reads) f))
+      (eq-or-lt-of-le low)
+
+  -- the same in the words of code that has passed one, two and three of them
+  gate-at : (n at place next : ℕ) → place ≡ at + 2 → next ≡ at + 10 → Formed (suc n) nr ni nq (drop at file) → fieldOf file place ≡ kind →
+      Gate file at nr × Formed n nr ni nq (drop next file)
+  gate-at n at place next e q f k = rw q (gate-first n at f (rw e at k))
+
+  module _ (n at : ℕ) (f : Formed (suc (suc (suc (suc n)))) nr ni nq (drop at file)) where
+    pub one-passed : fieldOf file (at + 2) ≡ kind → Gate file at nr × Formed (suc (suc (suc n))) nr ni nq (drop (at + 10) file)
+    one-passed k = gate-first (suc (suc (suc n))) at f k
+
+    pub two-passed : fieldOf file (at + 2) ≡ kind → fieldOf file (at + 12) ≡ kind → Gate file (at + 10) nr × Formed (suc (suc n)) nr ni nq (drop (at + 20) file)
+    two-passed k l = gate-at (suc (suc n)) (at + 10) (at + 12) (at + 20) (omega arith) (omega arith) (one-passed k .1) l
+
+    pub three-passed : fieldOf file (at + 2) ≡ kind → fieldOf file (at + 12) ≡ kind → fieldOf file (at + 22) ≡ kind →
+        Gate file (at + 20) nr × Formed (suc n) nr ni nq (drop (at + 30) file)
+    three-passed k l m = gate-at (suc n) (at + 20) (at + 22) (at + 30) (omega arith) (omega arith) (two-passed k l .1) m
+
+    pub four-passed : Four file at kind → Gate file (at + 30) nr × Formed n nr ni nq (drop (at + 40) file)
+    four-passed q = gate-at n (at + 30) (at + 32) (at + 40) (omega arith) (omega arith) (three-passed (q .first) (q .second) (q .third) .1) (q .fourth)
+
+-- what code that tries the four kinds needs
+module _ (file : List ℕ) (at kind : ℕ) (low : 5 ≤ kind) (high : kind ≤ 6) (s : Standing 4 (drop at file)) where
+  pub four-room : at + 6 ≤ length file
+  four-room = ready-room file at (s .nr) (s .ni) (s .nq) (formed-ready 3 (s .nr) (s .ni) (s .nq) file at (s .formed))
+
+  module _ (k : fieldOf file (at + 2) ≡ kind) where
+    pub three-room : at + 16 ≤ length file
+    three-room =
+        omega (
+          arith,
+          ready-room file (at + 10) (s .nr) (s .ni) (s .nq)
+              (formed-ready 2 (s .nr) (s .ni) (s .nq) file (at + 10) (one-passed (s .nr) (s .ni) (s .nq) file kind low high 0 at (s .formed) k .1)),
+        )
+
+    module _ (l : fieldOf file (at + 12) ≡ kind) where
+      pub two-room : at + 26 ≤ length file
+      two-room =
+          omega (
+            arith,
+            ready-room file (at + 20) (s .nr) (s .ni) (s .nq)
+                (formed-ready 1 (s .nr) (s .ni) (s .nq) file (at + 20) (two-passed (s .nr) (s .ni) (s .nq) file kind low high 0 at (s .formed) k l .1)),
+          )
+
+      pub one-room : fieldOf file (at + 22) ≡ kind → at + 36 ≤ length file
+      one-room m =
+          omega (
+            arith,
+            ready-room file (at + 30) (s .nr) (s .ni) (s .nq)
+                (formed-ready 0 (s .nr) (s .ni) (s .nq) file (at + 30) (three-passed (s .nr) (s .ni) (s .nq) file kind low high 0 at (s .formed) k l m .1)),
+          )

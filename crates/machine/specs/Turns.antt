@@ -1,6 +1,7 @@
 -- The turns of a run that goes through bytes: what is left from here ends where the whole ends. Assumes nothing.
 use Prim.Native.Nat.{ℕ, zero, suc, _+_, _-_, _^_, _≤_, _<_}
 use mathlib.Core.Path.{_≡_, refl, sym, ap, _∙_}
+use mathlib.Core.Bool.{Bool, true, false}
 use mathlib.Core.List.{List, [], _∷_}
 use native.Mathlib.Numerals.{add-one}
 use native.Mathlib.Omega.{arith}
@@ -17,30 +18,7 @@ use Rattle.programs.specs.declared.description.Instruction.the-variants.{Ones, 
 use Rattle.machine.specs.Meaning.{words, State, step, exec}
 use Rattle.machine.specs.Runs.{steps, answerOf}
 use Rattle.machine.specs.declared.runs.Run.{Run}
-use Rattle.machine.specs.Standing.{
-  InRange,
-  onGives,
-  readOf,
-  Formed,
-  formed-less,
-  Known,
-  Standing,
-  Stands,
-  Ready,
-  Gate,
-  read-first,
-  formed-first,
-  some-ready,
-  known-ready,
-  ready-room,
-  is-ones,
-  is-zero,
-  is-input,
-  is-not,
-  is-and,
-  is-or,
-  is-output,
-}
+use Rattle.machine.specs.Standing.{InRange, onGives, readOf, Formed, formed-less, Known, Standing, Stands, Ready, Gate, read-first, some-ready, ready-room, is-ones, is-zero, is-input, is-not, is-and, is-or, is-output, formed-next, Four, one-passed, two-passed, three-passed, four-passed}
 
 abbrev pub state : List ℕ → List ℕ → State ℕ
 state rs os = record { registers = rs; outputs = os }
@@ -60,6 +38,18 @@ module _ (file : List ℕ) (at : ℕ) (rs : List ℕ) (to a b : ℕ) (is-to : to
   pub or-made : set rs to (bitOr (getD rs a 0) (getD rs b 0)) ≡ orWords file at rs
   unfolding orWords
   or-made = rw (is-to, is-a, is-b)
+
+-- neither changes how many registers there are
+pub and-long : (file : List ℕ) (at : ℕ) (rs rs′ : List ℕ) → rs′ ≡ andWords file at rs → length rs′ ≡ length rs
+unfolding andWords
+and-long file at rs rs′ e = ap length e ∙ simp length-set
+
+pub or-long : (file : List ℕ) (at : ℕ) (rs rs′ : List ℕ) → rs′ ≡ orWords file at rs → length rs′ ≡ length rs
+unfolding orWords
+or-long file at rs rs′ e = ap length e ∙ simp length-set
+
+pub gate-kept : (file : List ℕ) (at n m : ℕ) → m ≡ n → Gate file at n → Gate file at m
+gate-kept file at n m e g = rw e g
 
 -- what an instruction does at a byte: where the next begins, and the registers and outputs after it
 pub record Does (file : List ℕ) (at : ℕ) (ins rs os : List ℕ) (next : ℕ) (rs′ os′ : List ℕ) : Type 0 where
@@ -136,11 +126,6 @@ exec-first : (n : ℕ) (file : List ℕ) (at : ℕ) (i : Instruction) (ins : Lis
 unfolding exec
 exec-first n file at i ins s e = rw (read-first n (drop at file) i e, drop-drop (lengthOf i) at file)
 
-formed-next : (n nr ni nq : ℕ) (file : List ℕ) (at : ℕ) (i : Instruction) → decodeOf (drop at file) ≡ gives i →
-    Formed (suc n) nr ni nq (drop at file) → Formed n nr ni nq (drop (at + lengthOf i) file)
-formed-next n nr ni nq file at i e f =
-    rw (drop-drop (lengthOf i) at file) at (formed-first n (drop at file) i e nr ni nq f .1)
-
 module _ (file : List ℕ) (n₀ from : ℕ) (rs₀ : List ℕ) where
   pub along-none : Along file n₀ from rs₀ n₀ from rs₀
   along-none = record { formed = λ ni nq f. f; same = λ ins os. refl; less = omega arith; long = refl }
@@ -182,6 +167,75 @@ module _ (file : List ℕ) (n₀ from : ℕ) (rs₀ : List ℕ) where
         along-or e rs′ q =
             along-suc (n - 1) (omega arith) (Or (fieldOf file (at + 4)) (fieldOf file (at + 6)) (fieldOf file (at + 8))) rs′
             (is-or file at _ _ _ along-ready kind is-kind e .0 .reads) (λ ins os. rw q) (ap length q ∙ length-set rs _ _)
+
+-- four gates of one kind, one after another
+module _ (file : List ℕ) (n₀ from : ℕ) (rs₀ : List ℕ) (k : Known n₀ (length rs₀) (drop from file)) where
+  and-next : (n at : ℕ) (rs : List ℕ) → Along file n₀ from rs₀ n at rs → 0 < n → (m next place : ℕ) → m ≡ n - 1 → next ≡ at + 10 → place ≡ at + 2 →
+      fieldOf file place ≡ 5 → (rs′ : List ℕ) → rs′ ≡ andWords file at rs → Along file n₀ from rs₀ m next rs′
+  and-next n at rs g l m next place a b c e rs′ q = rw (a, b) (along-and file n₀ from rs₀ n at rs g l k (fieldOf file place) (ap (fieldOf file) c) e rs′ q)
+
+  or-next : (n at : ℕ) (rs : List ℕ) → Along file n₀ from rs₀ n at rs → 0 < n → (m next place : ℕ) → m ≡ n - 1 → next ≡ at + 10 → place ≡ at + 2 →
+      fieldOf file place ≡ 6 → (rs′ : List ℕ) → rs′ ≡ orWords file at rs → Along file n₀ from rs₀ m next rs′
+  or-next n at rs g l m next place a b c e rs′ q = rw (a, b) (along-or file n₀ from rs₀ n at rs g l k (fieldOf file place) (ap (fieldOf file) c) e rs′ q)
+
+  module _ (n at : ℕ) (rs : List ℕ) (g : Along file n₀ from rs₀ n at rs) (l : 3 < n) where
+    four-formed : Formed 4 (length rs₀) (k .ni) (k .nq) (drop at file)
+    four-formed = formed-less 4 n (length rs₀) (k .ni) (k .nq) (drop at file) l (g .formed (k .ni) (k .nq) (k .formed))
+
+    pub four-stand : Standing 4 (drop at file)
+    four-stand = record { nr = length rs₀; ni = k .ni; nq = k .nq; formed = four-formed }
+
+    -- the four gates, with their operands in range
+    module _ (kind : ℕ) (low : 5 ≤ kind) (high : kind ≤ 6) (q : Four file at kind) where
+      pub first-gate : Gate file at (length rs)
+      first-gate = rw (g .long) (one-passed (length rs₀) (k .ni) (k .nq) file kind low high 0 at four-formed (q .first) .0)
+
+      pub second-gate : Gate file (at + 10) (length rs)
+      second-gate = rw (g .long) (two-passed (length rs₀) (k .ni) (k .nq) file kind low high 0 at four-formed (q .first) (q .second) .0)
+
+      pub third-gate : Gate file (at + 20) (length rs)
+      third-gate = rw (g .long) (three-passed (length rs₀) (k .ni) (k .nq) file kind low high 0 at four-formed (q .first) (q .second) (q .third) .0)
+
+      pub fourth-gate : Gate file (at + 30) (length rs)
+      fourth-gate = rw (g .long) (four-passed (length rs₀) (k .ni) (k .nq) file kind low high 0 at four-formed q .0)
+
+    module _ (r1 r2 r3 r4 : List ℕ) where
+      pub four-ands : Four file at 5 → r1 ≡ andWords file at rs → r2 ≡ andWords file (at + 10) r1 → r3 ≡ andWords file (at + 20) r2 →
+          r4 ≡ andWords file (at + 30) r3 → Along file n₀ from rs₀ (n - 4) (at + 40) r4
+      four-ands q e1 e2 e3 e4 =
+          and-next (n - 3) (at + 30) r3
+          (and-next (n - 2) (at + 20) r2
+          (and-next (n - 1) (at + 10) r1
+          (and-next n at rs g (omega arith) (n - 1) (at + 10) (at + 2) refl refl refl (q .first) r1 e1)
+          (omega arith) (n - 2) (at + 20) (at + 12) (omega arith) (omega arith) (omega arith) (q .second) r2 e2)
+          (omega arith) (n - 3) (at + 30) (at + 22) (omega arith) (omega arith) (omega arith) (q .third) r3 e3)
+          (omega arith) (n - 4) (at + 40) (at + 32) (omega arith) (omega arith) (omega arith) (q .fourth) r4 e4
+
+      pub four-ors : Four file at 6 → r1 ≡ orWords file at rs → r2 ≡ orWords file (at + 10) r1 → r3 ≡ orWords file (at + 20) r2 →
+          r4 ≡ orWords file (at + 30) r3 → Along file n₀ from rs₀ (n - 4) (at + 40) r4
+      four-ors q e1 e2 e3 e4 =
+          or-next (n - 3) (at + 30) r3
+          (or-next (n - 2) (at + 20) r2
+          (or-next (n - 1) (at + 10) r1
+          (or-next n at rs g (omega arith) (n - 1) (at + 10) (at + 2) refl refl refl (q .first) r1 e1)
+          (omega arith) (n - 2) (at + 20) (at + 12) (omega arith) (omega arith) (omega arith) (q .second) r2 e2)
+          (omega arith) (n - 3) (at + 30) (at + 22) (omega arith) (omega arith) (omega arith) (q .third) r3 e3)
+          (omega arith) (n - 4) (at + 40) (at + 32) (omega arith) (omega arith) (omega arith) (q .fourth) r4 e4
+
+-- a run under way goes on from where another has come
+pub along-then : (file : List ℕ) (n₀ from : ℕ) (rs₀ : List ℕ) (n at : ℕ) (rs : List ℕ) (n′ at′ : ℕ) (rs′ : List ℕ) → Along file n₀ from rs₀ n at rs →
+    Along file n at rs n′ at′ rs′ → Along file n₀ from rs₀ n′ at′ rs′
+along-then file n₀ from rs₀ n at rs n′ at′ rs′ g h =
+    record {
+      formed = λ ni nq f. rw (g .long) at (h .formed ni nq (rw (g .long) (g .formed ni nq f)));
+      same = λ ins os. (h .same ins os ∙ g .same ins os);
+      less = omega (arith, g .less, h .less);
+      long = h .long ∙ g .long;
+    }
+
+pub along-known : (file : List ℕ) (n₀ from : ℕ) (rs₀ : List ℕ) (n at : ℕ) (rs : List ℕ) → Along file n₀ from rs₀ n at rs →
+    Known n₀ (length rs₀) (drop from file) → Known n (length rs) (drop at file)
+along-known file n₀ from rs₀ n at rs g k = record { ni = k .ni; nq = k .nq; formed = rw (g .long) (g .formed (k .ni) (k .nq) (k .formed)) }
 
 -- what a run of n instructions from a byte on leaves
 pub record Carried (file : List ℕ) (from n : ℕ) (ins rs os rs′ os′ : List ℕ) : Type 0 where
@@ -298,10 +352,10 @@ read-take (suc m) (suc n) nr ni nq bytes l f =
 
 module _ (file : List ℕ) (count : ℕ) (ins rs os : List ℕ) (position budget : ℕ)
     (f : Formed count (length rs) (length ins) (length os) (drop header-length file)) (at : ℕ) (p : Past file header-length count position at) (n : ℕ) (is-n : n ≡ steps budget position count) where
-  pub left-formed : Formed n (length rs) (length ins) (length os) (drop at file)
+  left-formed : Formed n (length rs) (length ins) (length os) (drop at file)
   left-formed = formed-less n (count - position) _ _ _ (drop at file) (omega arith) (p .formed _ _ _ f)
 
-  pub ends : (rs′ os′ : List ℕ) → Carried file at n ins rs os rs′ os′ →
+  ends : (rs′ os′ : List ℕ) → Carried file at n ins rs os rs′ os′ →
       Ends file count ins rs os position budget
       (record { finished = eqb (position + n) count; position = position + n; count = n; budget = budget }) rs′ os′
   ends rs′ os′ c =
@@ -329,12 +383,31 @@ cleared-all i ws₀ ws a b c =
     let e : i ≡ length ws₀ = omega arith in
     sym (take-all i ws (omega (arith, c .long))) ∙ (c .front ∙ rw e)
 
--- a start: the run of what was cleared
-module _ (rs os rs′ os′ : List ℕ) (e : rs′ ≡ replicate (length rs) 0) (q : os′ ≡ replicate (length os) 0) where
-  pub cleared-formed : (count ni : ℕ) (bytes : List ℕ) → Formed count (length rs) ni (length os) bytes → Formed count (length rs′) ni (length os′) bytes
-  cleared-formed count ni bytes f = rw (e, q, length-replicate {A = ℕ} (length rs) 0, length-replicate {A = ℕ} (length os) 0) f
+-- what a run begins with: all words 0 for a run that begins afresh
+abbrev pub prepared : Bool → List ℕ → List ℕ
+prepared true ws = replicate (length ws) 0
+prepared false ws = ws
 
-  pub cleared-ends : (file : List ℕ) (count : ℕ) (ins : List ℕ) (position budget : ℕ) (r : Run) (rs″ os″ : List ℕ) →
-      Ends file count ins rs′ os′ position budget r rs″ os″ →
-      Ends file count ins (replicate (length rs) 0) (replicate (length os) 0) position budget r rs″ os″
-  cleared-ends file count ins position budget r rs″ os″ d = rw (e, q) at d
+pub prepared-long : (fresh : Bool) (ws ws′ : List ℕ) → ws′ ≡ prepared fresh ws → length ws′ ≡ length ws
+prepared-long true ws ws′ e = ap length e ∙ length-replicate (length ws) 0
+prepared-long false ws ws′ e = ap length e
+
+module _ (fresh : Bool) (file : List ℕ) (count : ℕ) (ins rs os rs′ os′ : List ℕ) (position budget : ℕ) (e : rs′ ≡ prepared fresh rs) (q : os′ ≡ prepared fresh os)
+    (f : Formed count (length rs) (length ins) (length os) (drop header-length file)) (at : ℕ) (p : Past file header-length count position at) (n : ℕ)
+    (is-n : n ≡ steps budget position count) where
+  prepared-formed : Formed count (length rs′) (length ins) (length os′) (drop header-length file)
+  prepared-formed = rw (prepared-long fresh rs rs′ e, prepared-long fresh os os′ q) f
+
+  pub run-formed : Formed n (length rs′) (length ins) (length os′) (drop at file)
+  run-formed = left-formed file count ins rs′ os′ position budget prepared-formed at p n is-n
+
+  pub run-ends : (rs″ os″ : List ℕ) → Carried file at n ins rs′ os′ rs″ os″ →
+      Ends file count ins (prepared fresh rs) (prepared fresh os) position budget
+      (record { finished = eqb (position + n) count; position = position + n; count = n; budget = budget }) rs″ os″
+  run-ends rs″ os″ c =
+      ends-from (prepared fresh rs) (prepared fresh os) e q (ends file count ins rs′ os′ position budget prepared-formed at p n is-n rs″ os″ c)
+    where
+      ends-from : (a b : List ℕ) → rs′ ≡ a → os′ ≡ b →
+          Ends file count ins rs′ os′ position budget (record { finished = eqb (position + n) count; position = position + n; count = n; budget = budget }) rs″ os″ →
+          Ends file count ins a b position budget (record { finished = eqb (position + n) count; position = position + n; count = n; budget = budget }) rs″ os″
+      ends-from a b u v d = rw (u, v) at d

@@ -2,7 +2,7 @@
 ghost use mathlib.Core.Path.{_≡_};
 ghost use mathlib.Core.Bool.{not, true};
 ghost use Prim.Native.Nat.{_+_, _≤_, _<_};
-ghost use lib.ListN.{drop, length};
+ghost use lib.ListN.{length};
 ghost use Rattle.laws.specs.Sums.{any};
 ghost use Rattle.laws.specs.Outcome.{mapped};
 ghost use Rattle.programs.specs.Limits.{most-inputs, most-outputs, most-registers, within};

@@ -10,7 +10,7 @@ ghost use Rattle.programs.specs.Header.{header-length};
 ghost use Rattle.machine.specs.Meaning.{words};
 ghost use Rattle.machine.specs.Runs.{ran, resumeOf, startOf};
 ghost use Rattle.machine.specs.Standing.{Formed, Standing};
-ghost use Rattle.machine.specs.Turns.{Ends, Past};
+ghost use Rattle.machine.specs.Turns.{Ends, Past, prepared};
 use crate::checking::check;
 use crate::steps::field_at;
 use crate::steps::lesser;
@@ -56,19 +56,31 @@ fn clear(words: &mut [u64])
     }
 }
 
-// A run of an accepted program from a position on: as many of its instructions as are left and the budget allows.
+// Clears words for a run that begins afresh.
+fn prepare(words: &mut [u64], fresh: bool)
+    ensures { λ _. ⌜ now (words .exit) ≡ prepared fresh (now (words .entry)) ⌝ }
+{
+    if fresh {
+        clear(words);
+    }
+}
+
+// A run of an accepted program from a position on, afresh or with registers and outputs as they are: as many of its instructions as are left and the budget allows.
 fn carry_on(
     file: &[u8],
     count: u32,
     inputs: &[u64],
     registers: &mut [u64],
     outputs: &mut [u64],
+    fresh: bool,
     position: u32,
     budget: u32,
 ) -> Run
     requires { ⌜ Formed count (length (now registers)) (length (now inputs)) (length (now outputs)) (drop header-length (now file)) × (position ≤ count) ⌝ }
-    ensures { λ r. ⌜ Ends (now (file .entry)) count (now (inputs .entry)) (now (registers .entry)) (now (outputs .entry)) position budget r (now (registers .exit)) (now (outputs .exit)) ⌝ }
+    ensures { λ r. ⌜ Ends (now (file .entry)) count (now (inputs .entry)) (prepared fresh (now (registers .entry))) (prepared fresh (now (outputs .entry))) position budget r (now (registers .exit)) (now (outputs .exit)) ⌝ }
 {
+    prepare(registers, fresh);
+    prepare(outputs, fresh);
     let steps = lesser(budget as usize, (count - position) as usize) as u32;
     let at = skip(file, count as usize, position as usize);
     run_from(file, at, steps as usize, inputs, registers, outputs);
@@ -78,23 +90,6 @@ fn carry_on(
         count: steps,
         budget,
     }
-}
-
-// A run from instruction 0 on, of cleared registers and outputs.
-fn begin(
-    file: &[u8],
-    count: u32,
-    inputs: &[u64],
-    registers: &mut [u64],
-    outputs: &mut [u64],
-    budget: u32,
-) -> Run
-    requires { ⌜ Formed count (length (now registers)) (length (now inputs)) (length (now outputs)) (drop header-length (now file)) ⌝ }
-    ensures { λ r. ⌜ Ends (now (file .entry)) count (now (inputs .entry)) (replicate (length (now (registers .entry))) 0) (replicate (length (now (outputs .entry))) 0) 0 budget r (now (registers .exit)) (now (outputs .exit)) ⌝ }
-{
-    clear(registers);
-    clear(outputs);
-    carry_on(file, count, inputs, registers, outputs, 0, budget)
 }
 
 // Whether a buffer is too short for a program.
@@ -123,14 +118,16 @@ pub fn start(
             if lacks(p, inputs.len(), registers.len(), outputs.len()) {
                 return Ran::Refused(Refusal::Buffer);
             }
-            let r = p.registers;
+            let r = p.registers; // no word beyond these is cleared
             let o = p.outputs;
-            Ran::Done(begin(
+            Ran::Done(carry_on(
                 program,
                 p.count,
                 inputs,
                 &mut registers[..r],
                 &mut outputs[..o],
+                true,
+                0,
                 budget,
             ))
         }
@@ -168,6 +165,7 @@ pub fn resume(
                 inputs,
                 &mut registers[..r],
                 &mut outputs[..o],
+                false,
                 position,
                 budget,
             ))

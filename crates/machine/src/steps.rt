@@ -1,9 +1,10 @@
 // Instructions carried out on words, straight from their bytes (01, "Files").
 ghost use mathlib.Core.Path.{_≡_};
+ghost use mathlib.Core.Bool.{true};
 ghost use Prim.Native.Nat.{_+_, _*_, _≤_, _<_, min};
 ghost use lib.ListN.{drop, length};
 ghost use Rattle.files.specs.Fields.{fieldOf};
-ghost use Rattle.machine.specs.Standing.{Formed, Gate, Known, Ready};
+ghost use Rattle.machine.specs.Standing.{Formed, Four, Gate, Known, Ready, Standing};
 ghost use Rattle.machine.specs.Turns.{Along, andWords, Carried, Does, orWords};
 
 // The 16-bit field at `at`, in bytes that hold it.
@@ -98,17 +99,71 @@ pub(crate) struct Left {
     pub(crate) more: usize,
 }
 
-// ANDs, as long as one follows another: a loop of its own, since the next kind is then known in advance.
-fn and_run(file: &[u8], from: usize, steps: usize, registers: &mut [u64]) -> Left
+// Whether four instructions of one kind, AND or OR, follow each other from byte `at` on, where four instructions stand.
+fn four(file: &[u8], at: usize, kind: usize) -> bool
+    requires { ⌜ Standing 4 (drop at (now file)) × (5 ≤ kind) × (kind ≤ 6) ⌝ }
+    ensures { λ r. ⌜ (r ≡ true → Four (now (file .entry)) at kind) ⌝ }
+{
+    if field_at(file, at + 2) != kind {
+        return false;
+    }
+    if field_at(file, at + 12) != kind {
+        return false;
+    }
+    if field_at(file, at + 22) != kind {
+        return false;
+    }
+    field_at(file, at + 32) == kind
+}
+
+// ANDs, as long as four follow each other.
+fn and_fours(file: &[u8], from: usize, steps: usize, registers: &mut [u64]) -> Left
     requires { ⌜ Known steps (length (now registers)) (drop from (now file)) ⌝ }
     ensures { λ r. ⌜ Along (now (file .entry)) steps from (now (registers .entry)) (r .more) (r .at) (now (registers .exit)) ⌝ }
 {
     let mut more = steps;
     let mut at = from;
+    while 3 < more && four(file, at, 5) {
+        and_at(file, at, registers);
+        and_at(file, at + 10, registers);
+        and_at(file, at + 20, registers);
+        and_at(file, at + 30, registers);
+        at += 40;
+        more -= 4;
+    }
+    Left { at, more }
+}
+
+// ANDs, as long as one follows another: a loop of its own, since the next kind is then known in advance.
+fn and_run(file: &[u8], from: usize, steps: usize, registers: &mut [u64]) -> Left
+    requires { ⌜ Known steps (length (now registers)) (drop from (now file)) ⌝ }
+    ensures { λ r. ⌜ Along (now (file .entry)) steps from (now (registers .entry)) (r .more) (r .at) (now (registers .exit)) ⌝ }
+{
+    let most = and_fours(file, from, steps, registers);
+    let mut more = most.more;
+    let mut at = most.at;
     while 0 < more && field_at(file, at + 2) == 5 {
         and_at(file, at, registers);
         at += 10;
         more -= 1;
+    }
+    Left { at, more }
+}
+
+// ORs, as long as four follow each other.
+fn or_fours(file: &[u8], from: usize, steps: usize, registers: &mut [u64]) -> Left
+    requires { ⌜ Known steps (length (now registers)) (drop from (now file)) ⌝ }
+    ensures { λ r. ⌜ Along (now (file .entry)) steps from (now (registers .entry)) (r .more) (r .at) (now (registers .exit)) ⌝ }
+{
+    let mut more = steps;
+    let mut at = from;
+    while 3 < more && four(file, at, 6) {
+        or_at(file, at, registers);
+        or_at(file, at + 10, registers);
+        or_at(file, at + 20, registers);
+        or_at(file, at + 30, registers);
+        at += 40;
+        more -= 4;
     }
     Left { at, more }
 }
@@ -118,8 +173,9 @@ fn or_run(file: &[u8], from: usize, steps: usize, registers: &mut [u64]) -> Left
     requires { ⌜ Known steps (length (now registers)) (drop from (now file)) ⌝ }
     ensures { λ r. ⌜ Along (now (file .entry)) steps from (now (registers .entry)) (r .more) (r .at) (now (registers .exit)) ⌝ }
 {
-    let mut more = steps;
-    let mut at = from;
+    let most = or_fours(file, from, steps, registers);
+    let mut more = most.more;
+    let mut at = most.at;
     while 0 < more && field_at(file, at + 2) == 6 {
         or_at(file, at, registers);
         at += 10;

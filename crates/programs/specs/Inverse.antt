@@ -1,20 +1,19 @@
 -- Writing and reading are inverse: an instruction and a header are read back as they are written, and are written back as they are read.
 -- Assumes nothing.
-use Prim.Native.Nat.{ℕ, zero, suc, _+_, _*_, _/_, _%_, _≤_, _<_}
+use Prim.Native.Nat.{ℕ, _+_, _≤_}
 use mathlib.Core.Path.{_≡_, refl, sym, ap, _∙_}
 use mathlib.Core.Bool.{Bool, true, false, not, cond}
-use mathlib.Core.List.{List, [], _∷_, _++_}
+use mathlib.Core.List.{List}
 use native.Mathlib.Omega.{arith}
 use borrow.Author.Tests.{ltb-false, eqb-true, not-false}
 use lib.Dec.{eqb, ltb}
-use lib.ListN.{length, take, drop, getD, length-drop}
+use lib.ListN.{length, drop}
 use lib.Seq.{getD-drop}
-use Rattle.laws.specs.Outcome.{Outcome, refused, gives, refuse, _>>_, _>>=_, passed, bound, gives-inj}
-use Rattle.files.specs.Fields.{fieldOf, fieldBytes}
+use Rattle.laws.specs.Outcome.{Outcome, refused, gives, passed, bound, gives-inj}
+use Rattle.files.specs.Fields.{fieldOf}
 use Rattle.programs.specs.Limits.{within}
-use Rattle.programs.specs.Records.{recordBytes}
-use Rattle.programs.specs.Instructions.{ofKind, sizedOf, kindOf, lengthOf, operandsOf, instructionBytes, decodeOf, decodeAt}
-use Rattle.programs.specs.Header.{header-length, header-kind, headerBytes, headerOf, numbersOf}
+use Rattle.programs.specs.Instructions.{ofKind, sizedOf, kindOf, lengthOf, decodeOf}
+use Rattle.programs.specs.Header.{header-length, header-kind, headerOf, numbersOf}
 use Rattle.programs.specs.declared.description.Program.{Program}
 use Rattle.programs.specs.declared.description.Instruction.{Instruction}
 use Rattle.programs.specs.declared.description.Instruction.the-variants.{Ones, Zero, Input, Not, And, Or, Output}

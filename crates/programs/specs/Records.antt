@@ -1,16 +1,14 @@
 -- 01, "Files": a record is a row of 16-bit fields. Assumes nothing.
-use Prim.Native.Nat.{ℕ, zero, suc, _+_, _-_, _*_, _/_, _%_, _≤_, _<_}
-use mathlib.Core.Path.{_≡_, refl, sym, ap, _∙_}
-use mathlib.Core.Bool.{cond, true, false}
+use Prim.Native.Nat.{ℕ, _+_, _-_, _*_, _/_, _%_, _≤_, _<_}
+use mathlib.Core.Path.{_≡_, refl, ap, _∙_}
+use mathlib.Core.Bool.{cond}
 use mathlib.Core.List.{List, [], _∷_, _++_}
-use native.Mathlib.Nat.{add-zero}
 use native.Mathlib.Omega.{arith}
 use borrow.Author.Tests.{le-leb, lt-leb}
 use lib.Dec.{leb}
-use lib.ListN.{length, getD, set, take, drop, length-append, length-drop, take-append-drop}
-use lib.Seq.{getD-drop, drop-cons, drop-drop}
+use lib.ListN.{length}
 use Rattle.laws.specs.Lay.{layAt, length-layAt, Laid, laid-none, laid-after}
-use Rattle.files.specs.Fields.{fieldOf, fieldBytes}
+use Rattle.files.specs.Fields.{fieldBytes}
 
 -- the bytes of a record's fields
 unfoldable pub recordBytes : List ℕ → List ℕ

@@ -2,7 +2,7 @@
 use borrow.Author.Needs.{needs}
 use native.Mathlib.Omega.{arith}
 use Rattle.machine.specs.Checking.{admit-limits, admit-refused, admit-room, admit-operand, admit-unwritten, admit-next}
-use mathlib.Core.Path.{_≡_, sym, refl, ap, _∙_}
+use mathlib.Core.Path.{sym, _∙_}
 use borrow.Author.Tests.{not-true, not-false}
 use Rattle.machine.proofs.checking.admit.Statement.{statement}
 use Rattle.machine.proofs.checking.admit.Tie as tie

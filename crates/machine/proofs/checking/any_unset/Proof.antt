@@ -1,8 +1,7 @@
 -- `machine::any_unset` meets its contract: the outputs passed are set. Assumes nothing.
 use borrow.Author.Needs.{needs}
-use native.Mathlib.Omega.{arith}
 use Prim.Native.Nat.{_-_, _≤_}
-use mathlib.Core.Path.{_≡_, sym, refl}
+use mathlib.Core.Path.{_≡_, sym}
 use mathlib.Core.Bool.{not, false}
 use Rattle.laws.specs.Sums.{any, any-none, any-more, any-found, any-done}
 use Rattle.machine.specs.Checking.{flagged}

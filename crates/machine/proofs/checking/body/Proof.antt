@@ -1,7 +1,7 @@
 -- `machine::body` meets its contract: what is left from here is answered as the whole is. Assumes nothing.
 use borrow.Author.Needs.{needs}
 use native.Mathlib.Omega.{arith}
-use mathlib.Core.Path.{_≡_, sym, refl, _∙_}
+use mathlib.Core.Path.{sym, refl, _∙_}
 use Rattle.programs.specs.Reading.{within-means}
 use Rattle.machine.specs.Checking.{Checking, checking-none, checking-admit, checking-passes, checking-refused, checking-left, checking-unset, checking-done}
 use Rattle.machine.proofs.checking.body.Statement.{statement}

@@ -1,6 +1,5 @@
 -- `machine::clear` meets its contract: the words passed are 0. Assumes nothing.
 use borrow.Author.Needs.{needs}
-use native.Mathlib.Omega.{arith}
 use Prim.Native.Nat.{_-_, _≤_}
 use lib.ListN.{length}
 use Rattle.machine.specs.Turns.{Cleared, cleared-none, cleared-more, cleared-all}

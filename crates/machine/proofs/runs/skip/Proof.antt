@@ -3,7 +3,6 @@ use borrow.Author.Needs.{needs}
 use native.Mathlib.Omega.{arith}
 use Prim.Native.Nat.{_-_, _≤_}
 use Rattle.programs.specs.Header.{header-length}
-use mathlib.Core.Path.{subst}
 use Rattle.machine.specs.Turns.{Past, past-none, past-room, past-fits, past-turn, past-done}
 use Rattle.machine.proofs.runs.skip.Statement.{statement}
 use Rattle.machine.proofs.runs.skip.Tie as tie

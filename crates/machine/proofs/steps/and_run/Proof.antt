@@ -1,31 +1,35 @@
 -- `machine::and_run` meets its contract: what is left from here ends where the whole ends. Assumes nothing.
 use borrow.Author.Needs.{needs}
-use borrow.Author.Tests.{eqb-true}
 use native.Mathlib.Omega.{arith}
-use Rattle.machine.specs.Turns.{Along, along-none, along-room, gate-and, along-and}
+use borrow.Author.Tests.{eqb-true}
+use mathlib.Core.Path.{_∙_}
+use Rattle.machine.specs.Turns.{Along, along-none, along-room, along-known, along-then, gate-and, along-and}
 use Rattle.machine.proofs.steps.and_run.Statement.{statement}
 use Rattle.machine.proofs.steps.and_run.Tie as tie
 
 abbrev Inv-loop : tie.InvT-loop
-Inv-loop file from steps registers₀ more₀ at₀ registers more at = Along file steps from registers₀ more at registers
+Inv-loop file from steps registers₀ more₀ at₀ registers more at = Along file more₀ at₀ registers₀ more at registers
 
 abbrev μ-loop : tie.MeasureT-loop
 μ-loop file from steps registers₀ more₀ at₀ registers more at = more
+
+and-fours-requires : tie.Need-and-fours-requires Inv-loop μ-loop
+and-fours-requires c κs = search needs
 
 loop-holds : tie.Need-loop-holds Inv-loop μ-loop
 loop-holds c = along-none _ _ _ _
 
 add-field-at : tie.Need-add-field-at Inv-loop μ-loop
-add-field-at c = let h = along-room _ _ _ _ _ _ _ (c .before .loop .inv) (c .loop-test .taken) (c .before .before .before .before .pre) in omega arith
+add-field-at c = let h = along-room _ _ _ _ _ _ _ (c .before .loop .inv) (c .loop-test .taken) (along-known _ _ _ _ _ _ _ (c .before .before .before .before .and-fours .ensures) (c .before .before .before .before .before .before .before .before .pre)) in omega arith
 
 field-at-requires : tie.Need-field-at-requires Inv-loop μ-loop
-field-at-requires c κs = let h = along-room _ _ _ _ _ _ _ (c .before .loop .inv) (c .loop-test .taken) (c .before .before .before .before .pre) in omega arith
+field-at-requires c κs = let h = along-room _ _ _ _ _ _ _ (c .before .loop .inv) (c .loop-test .taken) (along-known _ _ _ _ _ _ _ (c .before .before .before .before .and-fours .ensures) (c .before .before .before .before .before .before .before .before .pre)) in omega arith
 
 and-at-requires : tie.Need-and-at-requires Inv-loop μ-loop
-and-at-requires c κs = gate-and _ _ _ _ _ _ _ (c .before .before .before .before .loop .inv) (c .before .before .before .loop-test .taken) (c .before .before .before .before .before .before .before .pre) _ (c .before .before .field-at .ensures .0) (eqb-true _ _ (c .before .if1 .taken))
+and-at-requires c κs = gate-and _ _ _ _ _ _ _ (c .before .before .before .before .loop .inv) (c .before .before .before .loop-test .taken) (along-known _ _ _ _ _ _ _ (c .before .before .before .before .before .before .before .and-fours .ensures) (c .before .before .before .before .before .before .before .before .before .before .before .pre)) _ (c .before .before .field-at .ensures .0) (eqb-true _ _ (c .before .if1 .taken))
 
 add-at : tie.Need-add-at Inv-loop μ-loop
-add-at c = let h = gate-and _ _ _ _ _ _ _ (c .before .before .before .before .before .before .before .loop .inv) (c .before .before .before .before .before .before .loop-test .taken) (c .before .before .before .before .before .before .before .before .before .before .pre) _ (c .before .before .before .before .before .field-at .ensures .0) (eqb-true _ _ (c .before .before .before .before .if1 .taken)) in let r = h .room in omega arith
+add-at c = let h = gate-and _ _ _ _ _ _ _ (c .before .before .before .before .before .before .before .loop .inv) (c .before .before .before .before .before .before .loop-test .taken) (along-known _ _ _ _ _ _ _ (c .before .before .before .before .before .before .before .before .before .before .and-fours .ensures) (c .before .before .before .before .before .before .before .before .before .before .before .before .before .before .pre)) _ (c .before .before .before .before .before .field-at .ensures .0) (eqb-true _ _ (c .before .before .before .before .if1 .taken)) in let r = h .room in omega arith
 
 sub-more : tie.Need-sub-more Inv-loop μ-loop
 sub-more c = search needs
@@ -34,19 +38,19 @@ loop-less : tie.Need-loop-less Inv-loop μ-loop
 loop-less c = search needs
 
 loop-again : tie.Need-loop-again Inv-loop μ-loop
-loop-again c = along-and _ _ _ _ _ _ _ (c .before .before .before .before .before .before .before .loop .inv) (c .before .before .before .before .before .before .loop-test .taken) (c .before .before .before .before .before .before .before .before .before .before .pre) _ (c .before .before .before .before .before .field-at .ensures .0) (eqb-true _ _ (c .before .before .before .before .if1 .taken)) _ (c .before .before .and-at .ensures)
+loop-again c = along-and _ _ _ _ _ _ _ (c .before .before .before .before .before .before .before .loop .inv) (c .before .before .before .before .before .before .loop-test .taken) (along-known _ _ _ _ _ _ _ (c .before .before .before .before .before .before .before .before .before .before .and-fours .ensures) (c .before .before .before .before .before .before .before .before .before .before .before .before .before .before .pre)) _ (c .before .before .before .before .before .field-at .ensures .0) (eqb-true _ _ (c .before .before .before .before .if1 .taken)) _ (c .before .before .and-at .ensures)
 
 same-length : tie.Need-same-length Inv-loop μ-loop
-same-length c = c .before .before .before .loop .inv .long
+same-length c = c .before .before .before .loop .inv .long ∙ c .before .before .before .before .before .before .and-fours .ensures .long
 
 returns : tie.Need-returns Inv-loop μ-loop
-returns c = c .before .before .before .loop .inv
+returns c = along-then _ _ _ _ _ _ _ _ _ _ (c .before .before .before .before .before .before .and-fours .ensures) (c .before .before .before .loop .inv)
 
 same-length-2 : tie.Need-same-length-2 Inv-loop μ-loop
-same-length-2 c = c .before .loop .inv .long
+same-length-2 c = c .before .loop .inv .long ∙ c .before .before .before .before .and-fours .ensures .long
 
 returns-2 : tie.Need-returns-2 Inv-loop μ-loop
-returns-2 c = c .before .loop .inv
+returns-2 c = along-then _ _ _ _ _ _ _ _ _ _ (c .before .before .before .before .and-fours .ensures) (c .before .loop .inv)
 
 pub and-run-spec : {M : Type 1} → statement M
 and-run-spec =
@@ -54,6 +58,7 @@ and-run-spec =
     (tie.spec
     Inv-loop
     μ-loop
+    and-fours-requires
     loop-holds
     add-field-at
     field-at-requires

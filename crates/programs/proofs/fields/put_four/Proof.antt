@@ -3,7 +3,7 @@ use borrow.Author.Needs.{needs}
 use Rattle.programs.specs.Records.{field-after}
 use native.Mathlib.Omega.{arith}
 use mathlib.Core.List.{[], _∷_}
-use mathlib.Core.Path.{_≡_, refl}
+use mathlib.Core.Path.{refl}
 use Rattle.programs.proofs.fields.put_four.Statement.{statement}
 use Rattle.programs.proofs.fields.put_four.Tie as tie
 

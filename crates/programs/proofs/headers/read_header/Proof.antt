@@ -1,7 +1,7 @@
 -- `programs::read_header` meets its contract: each way through the tests is one of the definition. Assumes nothing.
 use borrow.Author.Needs.{needs}
 use Rattle.programs.specs.Reading.{numbers-are, header-short, header-other, header-outside, header-length-wrong, header-read}
-use mathlib.Core.Path.{_≡_, sym, _∙_}
+use mathlib.Core.Path.{sym, _∙_}
 use borrow.Author.Tests.{not-true, not-false}
 use Rattle.programs.proofs.headers.read_header.Statement.{statement}
 use Rattle.programs.proofs.headers.read_header.Tie as tie

@@ -4,7 +4,7 @@ use Rattle.programs.specs.Records.{field-after}
 use Rattle.programs.specs.Reading.{within-means}
 use native.Mathlib.Omega.{arith}
 use mathlib.Core.List.{[], _∷_}
-use mathlib.Core.Path.{_≡_, refl}
+use mathlib.Core.Path.{refl}
 use Prim.Native.Nat.{_%_}
 use Rattle.programs.specs.Header.{headerBytes}
 use Rattle.programs.proofs.headers.store_header.Statement.{statement}

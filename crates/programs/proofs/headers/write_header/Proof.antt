@@ -1,7 +1,7 @@
 -- `programs::write_header` meets its contract. Assumes nothing.
 use borrow.Author.Needs.{needs}
 use Rattle.programs.specs.Reading.{header-not, header-no-room, header-room}
-use mathlib.Core.Path.{_≡_, sym, _∙_}
+use mathlib.Core.Path.{sym, _∙_}
 use borrow.Author.Tests.{not-true, not-false}
 use Rattle.programs.proofs.headers.write_header.Statement.{statement}
 use Rattle.programs.proofs.headers.write_header.Tie as tie

@@ -1,7 +1,7 @@
 -- `programs::sized` meets its contract. Assumes nothing.
 use borrow.Author.Needs.{needs}
 use borrow.Author.Tests.{eq-eqb, ne-eqb}
-use mathlib.Core.Path.{_≡_, _∙_, sym}
+use mathlib.Core.Path.{_∙_, sym}
 use Rattle.programs.specs.Instructions.{sizedOf}
 use Rattle.programs.proofs.instructions.sized.Statement.{statement}
 use Rattle.programs.proofs.instructions.sized.Tie as tie

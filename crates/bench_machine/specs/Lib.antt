@@ -1,0 +1,2 @@
+-- The numbers that the benchmark reads.
+pub mod Numbers
