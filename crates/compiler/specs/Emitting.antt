@@ -126,7 +126,8 @@ pub record Ahead (at : ℕ) (whole : List Instruction) (buf : List ℕ) (rest : 
 pub ahead-all : (at : ℕ) (whole : List Instruction) (buf : List ℕ) → at + size whole ≤ length buf → Ahead at whole buf whole buf at
 ahead-all at whole buf h = record { done = []; is = refl; room = h; so-far = emitted-none at buf (omega arith) }
 
-module _ (at : ℕ) (whole : List Instruction) (buf : List ℕ) (rest : List Instruction) (now : List ℕ) (mid : ℕ) (a : Ahead at whole buf rest now mid) where
+module _ (at : ℕ) (whole : List Instruction) (buf : List ℕ) (rest : List Instruction) (now : List ℕ) (mid : ℕ)
+    (a : Ahead at whole buf rest now mid) where
   pub ahead-room : (is left : List Instruction) → rest ≡ is ++ left → mid + size is ≤ length now
   ahead-room is left e =
       omega (
@@ -140,7 +141,8 @@ module _ (at : ℕ) (whole : List Instruction) (buf : List ℕ) (rest : List Ins
         size-append is left,
       )
 
-  pub ahead-more : (is left : List Instruction) (now′ : List ℕ) (next : ℕ) → rest ≡ is ++ left → Emitted mid is now now′ next → Ahead at whole buf left now′ next
+  pub ahead-more : (is left : List Instruction) (now′ : List ℕ) (next : ℕ) → rest ≡ is ++ left → Emitted mid is now now′ next →
+      Ahead at whole buf left now′ next
   ahead-more is left now′ next e b =
       record {
         done = a .done ++ is;

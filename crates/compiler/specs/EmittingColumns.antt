@@ -2,7 +2,7 @@
 use Prim.Native.Nat.{ℕ, zero, suc, _+_, _*_, _-_, _/_, _%_, _^_, _≤_, _<_, min}
 use mathlib.Core.Path.{_≡_, refl, sym, ap, _∙_, subst}
 use mathlib.Core.List.{List, [], _++_}
-use native.Mathlib.Nat.{add-zero, sub-zero, pow-succ'}
+use native.Mathlib.Nat.{add-zero, sub-zero, mul-le-mul, pow-succ'}
 use native.Mathlib.Numerals.{add-one}
 use native.Mathlib.Omega.{arith}
 use lib.Count as Count
@@ -11,16 +11,24 @@ use lib.Pow.{shr-shr}
 use Rattle.laws.specs.Sums.{sumTo, sum-eq, sum-more}
 use Rattle.laws.specs.Lay.{blocks, blocks-more}
 use Rattle.files.specs.Fields.{bitOf}
+use Rattle.files.specs.Matrix.{most-rows, most-columns}
 use Rattle.files.specs.Live.{weight}
 use Rattle.programs.specs.declared.description.Instruction.{Instruction}
 use Rattle.compiler.specs.Translation.{rowBits, split, mark, met, marks, keep, column, liveBefore}
 use Rattle.compiler.specs.Width.{row-lt}
 use Rattle.compiler.specs.Size.{ones, mark-length, split-length, keep-length}
-use Rattle.compiler.specs.Emitting.{size, size-append, Emitted, emitted-none, emitted-after, Ahead, ahead-all, ahead-room, ahead-more, ahead-none}
+use Rattle.compiler.specs.Emitting.{size, size-append, Fit, Emitted, emitted-none, emitted-after}
+use Rattle.compiler.specs.Emitting.{Ahead, ahead-all, ahead-room, ahead-more, ahead-none}
 
 -- bit c of row v, in packed rows of `stride` bytes each
 abbrev pub packedRows : List ℕ → ℕ → ℕ → ℕ → ℕ
 packedRows bytes stride v c = bitOf bytes (v * stride) c
+
+-- rows and bytes a row within the limits, and registers and outputs too
+pub record Shape (k m stride : ℕ) : Type 0 where
+  pub fit : Fit k m
+  pub few-rows : m ≤ most-rows
+  pub few-bytes : stride ≤ most-columns
 
 -- the mark of a row whose bit is b
 unfoldable pub ifMet : ℕ → List Instruction → List Instruction
@@ -38,6 +46,10 @@ pub record Counted (bit : ℕ → ℕ → ℕ) (m c rows instructions : ℕ) : T
 pub record Live (bit : ℕ → ℕ → ℕ) (m c h : ℕ) : Type 0 where
   pub is : h ≡ liveBefore bit m c
   pub few : h ≤ m
+
+-- where a row begins
+pub row-fits : (v stride : ℕ) → v ≤ most-rows → stride ≤ most-columns → v * stride < 2 ^ 64
+row-fits v stride a b = omega (arith, mul-le-mul {n₁ = v} {m₁ = stride} {n₂ = most-rows} {m₂ = most-columns} a b)
 
 -- ---- counting a column
 -- the same of its first v rows, where row v takes one instruction and one for each set bit of v
@@ -63,10 +75,13 @@ ones-are (suc k) v h =
     omega (
       arith,
       sum-first k (λ t. v / 2 ^ t % 2),
-      sum-eq k (λ t. v / 2 ^ suc t % 2) (λ t. v / 2 / 2 ^ t % 2) (λ t b. ap (λ (x : ℕ). x % 2) (sym (shr-shr v 1 t ∙ ap (λ (i : ℕ). v / 2 ^ i) (omega arith)))),
+      sum-eq k (λ t. v / 2 ^ suc t % 2) (λ t. v / 2 / 2 ^ t % 2) (λ t b. halved t),
       ones-are k (v / 2) l,
       Count.ones-step v,
     )
+  where
+    halved : (t : ℕ) → v / 2 ^ suc t % 2 ≡ v / 2 / 2 ^ t % 2
+    halved t = ap (λ (x : ℕ). x % 2) (sym (shr-shr v 1 t ∙ ap (λ (i : ℕ). v / 2 ^ i) (omega arith)))
 
 bit-times : (b x : ℕ) → b < 2 → b * x ≤ x
 bit-times zero x h = omega arith
@@ -185,7 +200,8 @@ count-done f c n count a b e =
     subst (λ (x : ℕ). count ≡ length (blocks x f)) q e
 
 -- ---- the rows of a column, from m - 1 down
-pub if-not-met : (b : ℕ) (is : List Instruction) (at : ℕ) (buf : List ℕ) → b ≡ 0 → at + size (ifMet b is) ≤ length buf → Emitted at (ifMet b is) buf buf at
+pub if-not-met : (b : ℕ) (is : List Instruction) (at : ℕ) (buf : List ℕ) → b ≡ 0 → at + size (ifMet b is) ≤ length buf →
+    Emitted at (ifMet b is) buf buf at
 unfolding ifMet
 if-not-met zero is at buf e h = emitted-none at buf (omega arith)
 if-not-met (suc b) is at buf e h = absurd (omega arith)

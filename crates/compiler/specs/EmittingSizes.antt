@@ -8,7 +8,8 @@ use Rattle.laws.specs.Lay.{blocks}
 use Rattle.files.specs.Live.{weight}
 use Rattle.programs.specs.declared.description.Instruction.{Instruction}
 use Rattle.programs.specs.declared.description.Instruction.the-variants.{Or}
-use Rattle.compiler.specs.Translation.{regV, regY, clear, begin, apart, split, ifSet, spell, mark, met, marks, carry, keep, tell, end, liveBefore, column}
+use Rattle.compiler.specs.Translation.{regV, regY, clear, begin, apart, split, ifSet, spell, mark}
+use Rattle.compiler.specs.Translation.{met, marks, carry, keep, tell, end, liveBefore, column}
 use Rattle.compiler.specs.Emitting.{size, size-append, size-blocks}
 use Rattle.compiler.specs.EmittingParts.{size-begin, size-end}
 

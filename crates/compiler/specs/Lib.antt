@@ -18,4 +18,5 @@ pub mod Emitting
 pub mod EmittingParts
 pub mod EmittingColumns
 pub mod EmittingSizes
+pub mod EmittingRows
 pub mod EmittingProgram

@@ -3,11 +3,11 @@ ghost use Prim.Native.Nat.{_+_, _*_, _≤_, _<_};
 ghost use lib.ListN.{length};
 ghost use Rattle.laws.specs.Lay.{blocks};
 ghost use Rattle.files.specs.Live.{weight};
-ghost use Rattle.files.specs.Matrix.{most-columns, most-rows};
+ghost use Rattle.files.specs.Matrix.{most-columns};
 ghost use Rattle.compiler.specs.Translation.{column, mark, marks};
 ghost use Rattle.compiler.specs.Room.{Roomy};
 ghost use Rattle.compiler.specs.Emitting.{Emitted, Fit, size};
-ghost use Rattle.compiler.specs.EmittingColumns.{ifMet, Live, packedRows};
+ghost use Rattle.compiler.specs.EmittingColumns.{ifMet, Live, packedRows, Shape};
 use crate::parts::keep;
 use crate::parts::mark;
 use crate::parts::split;
@@ -36,7 +36,7 @@ fn marks(
     out: &mut [u8],
     at: usize,
 ) -> usize
-    requires { ⌜ (at + size (marks k m (λ v. packedRows (now bytes) stride v c) m 0) ≤ length (now out)) × Fit k m × (m ≤ most-rows) × (stride ≤ most-columns) ⌝ }
+    requires { ⌜ (at + size (marks k m (λ v. packedRows (now bytes) stride v c) m 0) ≤ length (now out)) × Shape k m stride ⌝ }
     ensures { λ r. ⌜ Emitted at (marks k m (λ v. packedRows (now (bytes .entry)) stride v c) m 0) (now (out .entry)) (now (out .exit)) r ⌝ }
 {
     let mut to = at;
@@ -67,7 +67,7 @@ fn column(
     out: &mut [u8],
     at: usize,
 ) -> Done
-    requires { ⌜ (at + size (column k m (packedRows (now bytes) stride) c) ≤ length (now out)) × Fit k m × (m ≤ most-rows) × (c < most-columns) × (stride ≤ most-columns) ⌝ }
+    requires { ⌜ (at + size (column k m (packedRows (now bytes) stride) c) ≤ length (now out)) × Shape k m stride × (c < most-columns) ⌝ }
     requires { ⌜ Live (packedRows (now bytes) stride) m c h × (weight (packedRows (now bytes) stride) m c ≤ 2 * h) ⌝ }
     ensures { λ r. ⌜ Emitted at (column k m (packedRows (now (bytes .entry)) stride) c) (now (out .entry)) (now (out .exit)) (r .at) ⌝ }
     ensures { λ r. ⌜ Live (packedRows (now (bytes .entry)) stride) m (c + 1) (r .live) ⌝ }
@@ -90,7 +90,8 @@ pub(crate) fn columns(
     out: &mut [u8],
     at: usize,
 ) -> usize
-    requires { ⌜ (at + size (blocks n (column k m (packedRows (now bytes) stride))) ≤ length (now out)) × Fit k m × (m ≤ most-rows) × (n ≤ most-columns) × (stride ≤ most-columns) × Roomy m n (packedRows (now bytes) stride) ⌝ }
+    requires { ⌜ (at + size (blocks n (column k m (packedRows (now bytes) stride))) ≤ length (now out)) × Shape k m stride ⌝ }
+    requires { ⌜ (n ≤ most-columns) × Roomy m n (packedRows (now bytes) stride) ⌝ }
     ensures { λ r. ⌜ Emitted at (blocks n (column k m (packedRows (now (bytes .entry)) stride))) (now (out .entry)) (now (out .exit)) r ⌝ }
 {
     let mut h: usize = 1;

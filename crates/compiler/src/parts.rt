@@ -1,7 +1,7 @@
 // The parts of a program that do not look at the matrix (01, "Translation"). Each is written at byte `at` of a buffer that has room for it, and
 // answers the byte behind it.
 ghost use mathlib.Core.List.{_∷_, []};
-ghost use Prim.Native.Nat.{_+_, _*_, _≤_, _<_};
+ghost use Prim.Native.Nat.{_+_, _≤_, _<_};
 ghost use lib.ListN.{length};
 ghost use Rattle.programs.specs.Instructions.{lengthOf};
 ghost use Rattle.programs.specs.Limits.{most-outputs};
@@ -81,11 +81,11 @@ pub(crate) fn mark(k: usize, m: usize, v: usize, j: usize, out: &mut [u8], at: u
     requires { ⌜ (at + size (mark k m v j) ≤ length (now out)) × Fit k m × (j < m) ⌝ }
     ensures { λ r. ⌜ Emitted at (mark k m v j) (now (out .entry)) (now (out .exit)) r ⌝ }
 {
-    let from = reg_y(k, m, j);
-    let mut to = put(Instruction::Or(REG_H, REG_H, from), out, at);
+    let y = reg_y(k, m, j);
+    let mut to = put(Instruction::Or(REG_H, REG_H, y), out, at);
     for t in 0..k {
-        let set = reg_v(t);
-        to = put_if((v >> t) & 1, Instruction::Or(set, set, from), out, to);
+        let bit = reg_v(t);
+        to = put_if((v >> t) & 1, Instruction::Or(bit, bit, y), out, to);
     }
     to
 }
@@ -97,8 +97,9 @@ pub(crate) fn keep(k: usize, m: usize, w: usize, h: usize, out: &mut [u8], at: u
 {
     let mut to = at;
     for i in 0..h {
-        let from = reg_y(k, m, w + i);
-        to = put(Instruction::Or(reg_x(k, i), from, from), out, to);
+        let x = reg_x(k, i);
+        let y = reg_y(k, m, w + i);
+        to = put(Instruction::Or(x, y, y), out, to);
     }
     to
 }

@@ -1,6 +1,6 @@
 // The registers of a translated program: 0 B, 1 N, 2 H, then k of V, m of X, 2m of Y (01, "Translation").
 ghost use mathlib.Core.Path.{_≡_};
-ghost use Prim.Native.Nat.{_+_, _<_};
+ghost use Prim.Native.Nat.{_<_};
 ghost use Rattle.compiler.specs.Translation.{regV, regX, regY};
 
 pub(crate) const REG_B: u16 = 0;

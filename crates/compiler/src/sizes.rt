@@ -9,11 +9,12 @@ ghost use Rattle.programs.specs.Header.{header-length};
 ghost use Rattle.compiler.specs.Translation.{column, rowBits};
 ghost use Rattle.compiler.specs.Room.{Roomy};
 ghost use Rattle.compiler.specs.EmittingColumns.{Counted, packedRows};
+ghost use Rattle.compiler.specs.EmittingProgram.{Measured, Packed};
 use files::bit;
 use programs::Program;
 
 // k, the bits needed to write m - 1, by counted leading zeros.
-pub(crate) fn row_bits(m: usize) -> usize
+fn row_bits(m: usize) -> usize
     requires { ⌜ 1 ≤ m ⌝ }
     ensures { λ r. ⌜ r ≡ rowBits m ⌝ }
 {
@@ -51,7 +52,7 @@ pub(crate) fn count_marks(bytes: &[u8], stride: usize, m: usize, c: usize) -> Ma
 }
 
 // The instructions of all n columns of m packed rows.
-pub(crate) fn count_columns(bytes: &[u8], stride: usize, m: usize, n: usize) -> usize
+fn count_columns(bytes: &[u8], stride: usize, m: usize, n: usize) -> usize
     requires { ⌜ (m ≤ most-rows) × (n ≤ most-columns) × (stride ≤ most-columns) × Roomy m n (packedRows (now bytes) stride) ⌝ }
     ensures { λ r. ⌜ r ≡ length (blocks n (column (rowBits m) m (packedRows (now (bytes .entry)) stride))) ⌝ }
 {
@@ -67,9 +68,31 @@ pub(crate) fn count_columns(bytes: &[u8], stride: usize, m: usize, n: usize) -> 
 }
 
 // The bytes of a program whose n columns are `count` instructions: each of those takes 10, but for the INPUT and the NOT of a column, which take 8.
-pub(crate) fn program_length(k: usize, n: usize, count: usize) -> usize
+fn program_length(k: usize, n: usize, count: usize) -> usize
     requires { ⌜ (3 + 2 * k + count ≤ most-instructions) × (4 * n ≤ 10 * count) ⌝ }
     ensures { λ r. ⌜ r ≡ header-length + 6 * (2 + k) + 10 * count - 4 * n + 8 * (1 + k) ⌝ }
 {
     Program::HEADER + 6 * (2 + k) + 10 * count - 4 * n + 8 * (1 + k)
+}
+
+// What is measured of a program: k, the instructions of its columns, and its bytes.
+pub(crate) struct Measures {
+    pub bits: usize,
+    pub count: usize,
+    pub length: usize,
+}
+
+// Measures the program of m packed rows of n bits.
+pub(crate) fn measure(bytes: &[u8], m: usize, n: usize) -> Measures
+    requires { ⌜ Packed (now bytes) m n ⌝ }
+    ensures { λ r. ⌜ Measured (now (bytes .entry)) m n (r .bits) (r .count) (r .length) ⌝ }
+{
+    let bits = row_bits(m);
+    let count = count_columns(bytes, (n + 7) / 8, m, n);
+    let length = program_length(bits, n, count);
+    Measures {
+        bits,
+        count,
+        length,
+    }
 }

@@ -1,17 +1,19 @@
 // Compiling a matrix file (01, "Translation" and "The engine's no").
 ghost use mathlib.Core.Path.{_≡_};
+ghost use Prim.Native.Nat.{_≤_};
 ghost use lib.ListN.{length};
 ghost use Rattle.laws.specs.Lay.{lay};
 ghost use Rattle.laws.specs.Outcome.{laid, mapped};
-ghost use Rattle.files.specs.Files.{unpacked, written};
+ghost use Rattle.files.specs.Files.{written};
+ghost use Rattle.programs.specs.Reading.{Within};
 ghost use Rattle.compiler.specs.Translation.{compiled, compileOf};
-ghost use Rattle.compiler.specs.EmittingProgram.{Planned};
+ghost use Rattle.compiler.specs.EmittingRows.{described, packedMatrix};
+ghost use Rattle.compiler.specs.EmittingProgram.{Measured, Packed};
 use crate::columns::columns;
 use crate::parts::begin;
 use crate::parts::end;
-use crate::sizes::count_columns;
-use crate::sizes::program_length;
-use crate::sizes::row_bits;
+use crate::sizes::Measures;
+use crate::sizes::measure;
 use files::Checked;
 use files::Refusal;
 use files::Written;
@@ -19,18 +21,27 @@ use files::check;
 use programs::Program;
 use programs::write_header;
 
-// Writes the program of m packed rows of n bits, whose columns take `count` instructions, at the front of `program`.
-fn write(bytes: &[u8], k: usize, m: usize, n: usize, count: usize, program: &mut [u8])
-    requires { ⌜ Planned (now bytes) k m n count (length (now program)) ⌝ }
-    ensures { λ _. ⌜ now (program .exit) ≡ lay (compiled (unpacked (now (bytes .entry)) (record { rows = m; columns = n }))) (now (program .entry)) ⌝ }
+// The header of a program whose columns are `count` instructions.
+fn describe(k: usize, m: usize, n: usize, count: usize) -> Program
+    requires { ⌜ Within (described k m n count) ⌝ }
+    ensures { λ r. ⌜ r ≡ described k m n count ⌝ }
 {
-    let header = Program {
+    Program {
         registers: 3 + k + 3 * m,
         inputs: n,
         outputs: 1 + k,
         count: (3 + 2 * k + count) as u32,
-    };
-    write_header(header, program);
+    }
+}
+
+// Writes the program of m packed rows of n bits, as it was measured, at the front of `program`.
+fn write(bytes: &[u8], m: usize, n: usize, size: Measures, program: &mut [u8])
+    requires { ⌜ Packed (now bytes) m n × Measured (now bytes) m n (size .bits) (size .count) (size .length) ⌝ }
+    requires { ⌜ size .length ≤ length (now program) ⌝ }
+    ensures { λ _. ⌜ now (program .exit) ≡ lay (compiled (packedMatrix (now (bytes .entry)) m n)) (now (program .entry)) ⌝ }
+{
+    let k = size.bits;
+    write_header(describe(k, m, n, size.count), program);
     let mut at = begin(k, program, Program::HEADER);
     at = columns(bytes, (n + 7) / 8, k, m, n, program, at);
     end(k, program, at);
@@ -45,14 +56,12 @@ pub fn compile(file: &[u8], program: &mut [u8]) -> Written
         Checked::Refused(why) => Written::Refused(why),
         Checked::Matrix { rows, columns } => {
             let bytes = &file[8..];
-            let k = row_bits(rows);
-            let count = count_columns(bytes, (columns + 7) / 8, rows, columns);
-            let length = program_length(k, columns, count);
-            if program.len() < length {
+            let size = measure(bytes, rows, columns);
+            if program.len() < size.length {
                 return Written::Refused(Refusal::Buffer);
             }
-            write(bytes, k, rows, columns, count, program);
-            Written::Length(length)
+            write(bytes, rows, columns, size, program);
+            Written::Length(size.length)
         }
     }
 }

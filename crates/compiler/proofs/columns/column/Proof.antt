@@ -19,7 +19,7 @@ split-requires c κs =
 marks-requires : tie.Need-marks-requires
 marks-requires c κs =
     let after = live-more _ _ _ _ _ _ (c .before .before .before .before .before .before .before .before .before .pre .1 .0) (c .before .before .before .before .before .before .count-marks .ensures .set) (c .before .before .before .before .before .live-after .ensures) in
-    (omega (arith, column-size _ _ _ (c .before .before .before .before .before .before .before .before .before .args .k) _ _ _ (c .before .before .before .before .before .before .before .before .before .pre .1 .0) (c .before .before .before .before .before .before .count-marks .ensures .set) after), search needs, search needs, search needs)
+    (omega (arith, column-size _ _ _ (c .before .before .before .before .before .before .before .before .before .args .k) _ _ _ (c .before .before .before .before .before .before .before .before .before .pre .1 .0) (c .before .before .before .before .before .before .count-marks .ensures .set) after), search needs)
 
 keep-requires : tie.Need-keep-requires
 keep-requires c κs =

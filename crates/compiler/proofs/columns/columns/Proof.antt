@@ -19,12 +19,12 @@ abbrev μ-loop : tie.MeasureT-loop
 μ-loop bytes stride k m n out₀ at h₀ to₀ c₀ out h to c = n - c
 
 loop-holds : tie.Need-loop-holds Inv-loop μ-loop
-loop-holds c = (search needs, live-first _ _ 0 (c .before .before .pre .5 .some-rows), search needs, parts-none _ _ _ (search needs))
+loop-holds c = (search needs, live-first _ _ 0 (c .before .before .pre .1 .1 .some-rows), search needs, parts-none _ _ _ (search needs))
 
 column-requires : tie.Need-column-requires Inv-loop μ-loop
 column-requires c κs = (
-  (parts-room _ _ _ _ _ _ (c .before .before .loop .inv .3) _ (c .before .loop-test .taken) (c .before .before .loop .inv .2), search needs, search needs, search needs, search needs),
-  (c .before .before .loop .inv .1, omega (arith, c .before .before .loop .inv .1 .is, c .before .before .before .before .before .pre .5 .room (c .before .before .loop .c) (c .before .loop-test .taken))),
+  (parts-room _ _ _ _ _ _ (c .before .before .loop .inv .3) _ (c .before .loop-test .taken) (c .before .before .loop .inv .2), search needs, search needs),
+  (c .before .before .loop .inv .1, omega (arith, c .before .before .loop .inv .1 .is, c .before .before .before .before .before .pre .1 .1 .room (c .before .before .loop .c) (c .before .loop-test .taken))),
 )
 
 add-c : tie.Need-add-c Inv-loop μ-loop

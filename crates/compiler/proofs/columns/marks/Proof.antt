@@ -1,12 +1,9 @@
 -- `compiler::marks` meets its contract: the marks of the rows below are still ahead, with j set rows met. Assumes nothing.
 use borrow.Author.Needs.{needs}
-use native.Mathlib.Omega.{arith}
 use Prim.Native.Nat.{_-_, _≤_}
-use native.Mathlib.Nat.{mul-le-mul}
-use Rattle.files.specs.Matrix.{most-rows, most-columns}
 use Rattle.compiler.specs.Translation.{marks}
 use Rattle.compiler.specs.Emitting.{Ahead}
-use Rattle.compiler.specs.EmittingColumns.{packedRows, rows-ahead, row-room, row-more, rows-done}
+use Rattle.compiler.specs.EmittingColumns.{packedRows, row-fits, rows-ahead, row-room, row-more, rows-done}
 use Rattle.compiler.proofs.columns.marks.Statement.{statement}
 use Rattle.compiler.proofs.columns.marks.Tie as tie
 
@@ -27,7 +24,7 @@ sub-v-2 : tie.Need-sub-v-2 Inv-loop μ-loop
 sub-v-2 c = search needs
 
 mul-bit : tie.Need-mul-bit Inv-loop μ-loop
-mul-bit c = record { fits = omega (arith, mul-le-mul {n₁ = c .before .before .before .before .args .m - 1 - c .before .loop .i} {m₁ = c .before .before .before .before .args .stride} {n₂ = most-rows} {m₂ = most-columns} (search needs) (search needs)) }
+mul-bit c = record { fits = row-fits _ _ (search needs) (search needs) }
 
 bit-requires : tie.Need-bit-requires Inv-loop μ-loop
 bit-requires c κs = search needs

@@ -21,14 +21,14 @@ loop-holds : tie.Need-loop-holds Inv-loop μ-loop
 unfolding keep
 loop-holds c = (search needs, c .before .pre .0, parts-none _ _ _ (search needs))
 
+reg-x-requires : tie.Need-reg-x-requires Inv-loop μ-loop
+reg-x-requires c κs = search needs
+
 add-reg-y : tie.Need-add-reg-y Inv-loop μ-loop
 add-reg-y c = search needs
 
 reg-y-requires : tie.Need-reg-y-requires Inv-loop μ-loop
 reg-y-requires c κs = search needs
-
-reg-x-requires : tie.Need-reg-x-requires Inv-loop μ-loop
-reg-x-requires c κs = search needs
 
 put-requires : tie.Need-put-requires Inv-loop μ-loop
 put-requires c κs = omega (arith, parts-room _ _ _ _ _ _ (c .before .before .before .before .loop .inv .2) _ (c .before .before .before .loop-test .taken) (c .before .before .before .before .loop .inv .1))
@@ -40,7 +40,7 @@ loop-less : tie.Need-loop-less Inv-loop μ-loop
 loop-less c = search needs
 
 loop-again : tie.Need-loop-again Inv-loop μ-loop
-loop-again c = (search needs, c .before .before .before .before .before .before .before .loop .inv .1, parts-more _ _ _ _ _ _ (c .before .before .before .before .before .before .before .loop .inv .2) _ _ (rw (c .before .before .before .before .reg-x .ensures, c .before .before .before .before .before .reg-y .ensures) at (c .before .before .put .ensures)))
+loop-again c = (search needs, c .before .before .before .before .before .before .before .loop .inv .1, parts-more _ _ _ _ _ _ (c .before .before .before .before .before .before .before .loop .inv .2) _ _ (rw (c .before .before .before .before .before .reg-x .ensures, c .before .before .before .before .reg-y .ensures) at (c .before .before .put .ensures)))
 
 same-length : tie.Need-same-length Inv-loop μ-loop
 same-length c = search needs
@@ -56,9 +56,9 @@ keep-spec =
     Inv-loop
     μ-loop
     loop-holds
+    reg-x-requires
     add-reg-y
     reg-y-requires
-    reg-x-requires
     put-requires
     add-i
     loop-less

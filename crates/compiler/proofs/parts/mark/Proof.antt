@@ -13,12 +13,12 @@ use Rattle.compiler.proofs.parts.mark.Statement.{statement}
 use Rattle.compiler.proofs.parts.mark.Tie as tie
 
 abbrev Inv-loop : tie.InvT-loop
-Inv-loop k m v j out₀ at from to₀ t₀ out to t =
-    (t ≤ k) × (from ≡ regY k m j) × (to₀ + size (blocks k (spell k m v j)) ≤ length out₀) ×
+Inv-loop k m v j out₀ at y to₀ t₀ out to t =
+    (t ≤ k) × (y ≡ regY k m j) × (to₀ + size (blocks k (spell k m v j)) ≤ length out₀) ×
     Emitted to₀ (blocks t (spell k m v j)) out₀ out to
 
 abbrev μ-loop : tie.MeasureT-loop
-μ-loop k m v j out₀ at from to₀ t₀ out to t = k - t
+μ-loop k m v j out₀ at y to₀ t₀ out to t = k - t
 
 reg-y-requires : tie.Need-reg-y-requires Inv-loop μ-loop
 reg-y-requires c κs = search needs

@@ -2,10 +2,8 @@
 use borrow.Author.Needs.{needs}
 use native.Mathlib.Omega.{arith}
 use Prim.Native.Nat.{_-_, _≤_}
-use native.Mathlib.Nat.{mul-le-mul}
 use Rattle.files.specs.Fields.{bit-le}
-use Rattle.files.specs.Matrix.{most-rows, most-columns}
-use Rattle.compiler.specs.EmittingColumns.{packedRows, Marked, marked-none, marked-more, marked-counted, mark-few, ones-few}
+use Rattle.compiler.specs.EmittingColumns.{packedRows, row-fits, Marked, marked-none, marked-more, marked-counted, mark-few, ones-few}
 use Rattle.compiler.proofs.sizes.count_marks.Statement.{statement}
 use Rattle.compiler.proofs.sizes.count_marks.Tie as tie
 
@@ -19,7 +17,7 @@ loop-holds : tie.Need-loop-holds Inv-loop μ-loop
 loop-holds c = (search needs, marked-none _)
 
 mul-bit : tie.Need-mul-bit Inv-loop μ-loop
-mul-bit c = record { fits = omega (arith, mul-le-mul {n₁ = c .before .loop .v} {m₁ = c .before .before .before .args .stride} {n₂ = most-rows} {m₂ = most-columns} (search needs) (search needs)) }
+mul-bit c = record { fits = row-fits _ _ (search needs) (search needs) }
 
 bit-requires : tie.Need-bit-requires Inv-loop μ-loop
 bit-requires c κs = search needs

@@ -1,11 +1,10 @@
 -- `compiler::compile` meets its contract: the file's checks, then the buffer's against the measured size, then the program is laid. Assumes nothing.
 use borrow.Author.Needs.{needs}
 use native.Mathlib.Omega.{arith}
-use mathlib.Core.Path.{_∙_}
 use Rattle.laws.specs.Lay.{rest-is}
 use Rattle.laws.specs.Outcome.{ends-refused, ends-given}
 use Rattle.files.specs.Checks.{checked-whole}
-use Rattle.compiler.specs.EmittingProgram.{checked-roomy, columns-short, few-instructions, length-is, planned, compile-refused, compile-short, compile-gives}
+use Rattle.compiler.specs.EmittingProgram.{checked-packed, compile-refused, compile-short, compile-gives}
 use Rattle.compiler.proofs.translating.compile.Statement.{statement}
 use Rattle.compiler.proofs.translating.compile.Tie as tie
 
@@ -27,25 +26,14 @@ part-bytes-start c = omega (arith, checked-whole _ _ (rw (c .before .rows .given
 part-bytes-end : tie.Need-part-bytes-end
 part-bytes-end c = search needs
 
-row-bits-requires : tie.Need-row-bits-requires
-row-bits-requires c κs = checked-whole _ _ (rw (c .before .before .rows .given .1) at (c .before .before .before .before .check .ensures)) .some-rows
-
-add-count-columns : tie.Need-add-count-columns
-add-count-columns c = record { fits = omega (arith, checked-whole _ _ (rw (c .before .before .before .rows .given .1) at (c .before .before .before .before .before .check .ensures)) .few-columns) }
-
-count-columns-requires : tie.Need-count-columns-requires
-count-columns-requires c κs =
-    let w = checked-whole _ _ (rw (c .before .before .before .rows .given .1) at (c .before .before .before .before .before .check .ensures)) in
-    (w .few-rows, w .few-columns, omega (arith, w .few-columns), checked-roomy _ _ _ (rw (c .before .before .before .rows .given .1) at (c .before .before .before .before .before .check .ensures)) _ (rest-is 8 (c .before .before .before .before .before .before .before .before .args .file .now)))
-
-program-length-requires : tie.Need-program-length-requires
-program-length-requires c κs = (few-instructions _ _ _ (rw (c .before .before .before .before .rows .given .1) at (c .before .before .before .before .before .before .check .ensures)) _ _ _ (rest-is 8 (c .before .before .before .before .before .before .before .before .before .args .file .now)) (c .before .row-bits .ensures) (c .count-columns .ensures), columns-short _ _ _ (rw (c .before .before .before .before .rows .given .1) at (c .before .before .before .before .before .before .check .ensures)) _ _ _ (rest-is 8 (c .before .before .before .before .before .before .before .before .before .args .file .now)) (c .before .row-bits .ensures) (c .count-columns .ensures))
+measure-requires : tie.Need-measure-requires
+measure-requires c κs = checked-packed _ _ _ _ (rest-is 8 (c .before .before .before .before .before .before .before .args .file .now)) (rw (c .before .before .rows .given .1) at (c .before .before .before .before .check .ensures))
 
 returns : tie.Need-returns
-returns c = ends-refused _ _ _ _ _ (compile-short _ _ _ _ (rw (c .before .before .before .before .before .before .rows .given .1) at (c .before .before .before .before .before .before .before .before .check .ensures)) (omega (arith, c .before .program-length .ensures, length-is _ _ _ (rw (c .before .before .before .before .before .before .rows .given .1) at (c .before .before .before .before .before .before .before .before .check .ensures)) _ _ _ (rest-is 8 (c .before .before .before .before .before .before .before .before .before .before .before .args .file .now)) (c .before .before .before .row-bits .ensures) (c .before .before .count-columns .ensures))))
+returns c = ends-refused _ _ _ _ _ (compile-short _ _ _ _ (rest-is 8 (c .before .before .before .before .before .before .before .before .before .before .args .file .now)) (rw (c .before .before .before .before .before .rows .given .1) at (c .before .before .before .before .before .before .before .check .ensures)) _ _ _ _ (c .before .before .measure .ensures) (c .if1 .taken))
 
 write-requires : tie.Need-write-requires
-write-requires c κs = planned _ _ _ (rw (c .before .before .before .before .before .before .before .rows .given .1) at (c .before .before .before .before .before .before .before .before .before .check .ensures)) _ _ _ (rest-is 8 (c .before .before .before .before .before .before .before .before .before .before .before .before .args .file .now)) (c .before .before .before .before .row-bits .ensures) (c .before .before .before .count-columns .ensures) _ (omega (arith, c .before .before .program-length .ensures, length-is _ _ _ (rw (c .before .before .before .before .before .before .before .rows .given .1) at (c .before .before .before .before .before .before .before .before .before .check .ensures)) _ _ _ (rest-is 8 (c .before .before .before .before .before .before .before .before .before .before .before .before .args .file .now)) (c .before .before .before .before .row-bits .ensures) (c .before .before .before .count-columns .ensures)))
+write-requires c κs = ((checked-packed _ _ _ _ (rest-is 8 (c .before .before .before .before .before .before .before .before .before .before .before .args .file .now)) (rw (c .before .before .before .before .before .before .rows .given .1) at (c .before .before .before .before .before .before .before .before .check .ensures)), c .before .before .before .measure .ensures), c .before .if1 .left)
 
 returns-2 : tie.Need-returns-2
 returns-2 c = ends-refused _ _ _ _ _ (compile-refused _ _ _ (rw (c .before .why .given .1) at (c .before .before .before .check .ensures)))
@@ -55,8 +43,7 @@ same-length c = search needs
 
 returns-3 : tie.Need-returns-3
 returns-3 c =
-    ends-given _ _ _ _ _ _ _ (compile-gives _ _ _ _ (rw (c .before .before .before .before .before .before .before .before .before .before .rows .given .1) at (c .before .before .before .before .before .before .before .before .before .before .before .before .check .ensures)) (omega (arith, c .before .before .before .before .before .program-length .ensures, length-is _ _ _ (rw (c .before .before .before .before .before .before .before .before .before .before .rows .given .1) at (c .before .before .before .before .before .before .before .before .before .before .before .before .check .ensures)) _ _ _ (rest-is 8 (c .before .before .before .before .before .before .before .before .before .before .before .before .before .before .before .args .file .now)) (c .before .before .before .before .before .before .before .row-bits .ensures) (c .before .before .before .before .before .before .count-columns .ensures)))) (c .before .before .before .before .before .program-length .ensures ∙ length-is _ _ _ (rw (c .before .before .before .before .before .before .before .before .before .before .rows .given .1) at (c .before .before .before .before .before .before .before .before .before .before .before .before .check .ensures)) _ _ _ (rest-is 8 (c .before .before .before .before .before .before .before .before .before .before .before .before .before .before .before .args .file .now)) (c .before .before .before .before .before .before .before .row-bits .ensures) (c .before .before .before .before .before .before .count-columns .ensures))
-    (rw rest-is at (c .before .before .write .ensures))
+    ends-given _ _ _ _ _ _ _ (compile-gives _ _ _ _ (rest-is 8 (c .before .before .before .before .before .before .before .before .before .before .before .before .before .before .args .file .now)) (rw (c .before .before .before .before .before .before .before .before .before .rows .given .1) at (c .before .before .before .before .before .before .before .before .before .before .before .check .ensures)) _ _ _ _ (c .before .before .before .before .before .before .measure .ensures) (c .before .before .before .before .if1 .left)) (c .before .before .before .before .before .before .measure .ensures .all) (c .before .before .write .ensures)
 
 pub compile-spec : {M : Type 1} → statement M
 compile-spec =
@@ -68,10 +55,7 @@ compile-spec =
     sub-bytes
     part-bytes-start
     part-bytes-end
-    row-bits-requires
-    add-count-columns
-    count-columns-requires
-    program-length-requires
+    measure-requires
     returns
     write-requires
     returns-2

@@ -1,0 +1,78 @@
+-- What the lister needs of compiling and of instructions, and why it reads no more than the front of a long file. Assumes nothing.
+use Prim.Native.Nat.{ℕ, _+_, _≤_, _<_}
+use mathlib.Core.Path.{_≡_, refl}
+use mathlib.Core.Bool.{Bool, true, false, not, cond}
+use mathlib.Core.List.{List}
+use native.Mathlib.Omega.{arith}
+use borrow.Author.Tests.{le-ltb, ne-eqb, ltb-false}
+use lib.Dec.{eqb, ltb}
+use lib.ListN.{length, getD, take}
+use lib.Seq.{getD-take, length-take-le}
+use Rattle.laws.specs.Outcome.{Outcome, refused, gives, refuse, _>>_, passed, bound, mapped, mapped-gives, gives-inj}
+use Rattle.files.specs.Fields.{fieldOf}
+use Rattle.files.specs.Matrix.{Sizes, outside, most-rows, most-columns}
+use Rattle.files.specs.Files.{fileLength, headerOf, matrixOf}
+use Rattle.programs.specs.Instructions.{lengthOf}
+use Rattle.programs.specs.declared.description.Instruction.{Instruction}
+use Rattle.programs.specs.declared.description.Instruction.the-variants.{Ones, Zero, Input, Not, And, Or, Output}
+use Rattle.compiler.specs.Translation.{compiled, compileOf}
+
+pub length-few : (i : Instruction) → lengthOf i ≤ 10
+length-few (Ones to) = omega arith
+length-few (Zero to) = omega arith
+length-few (Input to n) = omega arith
+length-few (Not to a) = omega arith
+length-few (And to a b) = omega arith
+length-few (Or to a b) = omega arith
+length-few (Output o a) = omega arith
+
+-- what compile answers lies within its buffer
+pub program-fits : (file : List ℕ) (room n : ℕ) → gives n ≡ mapped length (compileOf file room) → n ≤ room
+unfolding compileOf
+program-fits file room n e =
+    let (code, c, long) = mapped-gives length (compileOf file room) n e in
+    let (M, m, t) = bound (matrixOf file) (λ M. refuse 13 (ltb room (length (compiled M))) >> gives (compiled M)) code c in
+    let p = passed 13 (ltb room (length (compiled M))) (gives (compiled M)) code t in
+    let same : compiled M ≡ code = gives-inj (p .1) in
+    let h : length (compiled M) ≤ room = ltb-false room (length (compiled M)) (p .0) in
+    rw (← long, ← same) h
+
+-- ---- a file longer than any length field is refused, and its kind, rows and columns say by which number: 2, 3, or 4 for the length field or for bytes
+-- left over
+unfoldable longNumber : ℕ → ℕ → ℕ → ℕ
+longNumber kind m n = cond (not (eqb kind 32)) 2 (cond (outside most-rows m) 3 (cond (outside most-columns n) 3 4))
+
+long-checks : (a b c d : Bool) →
+    _≡_ {A = Outcome Sizes} (refuse 2 a >> (refuse 3 b >> (refuse 3 c >> (refuse 4 d >> refused 4)))) (refused (cond a 2 (cond b 3 (cond c 3 4))))
+long-checks true b c d = refl
+long-checks false true c d = refl
+long-checks false false true d = refl
+long-checks false false false true = refl
+long-checks false false false false = refl
+
+long-header : (file : List ℕ) → 8 ≤ length file → fieldOf file 0 < length file →
+    headerOf file ≡ refused (longNumber (fieldOf file 2) (fieldOf file 4) (fieldOf file 6))
+unfolding headerOf longNumber
+long-header file a b =
+    rw (le-ltb (length file) 8 a, le-ltb (length file) (fieldOf file 0) (omega arith), ne-eqb (length file) (fieldOf file 0) (λ e. omega arith))
+    (long-checks (not (eqb (fieldOf file 2) 32)) (outside most-rows (fieldOf file 4)) (outside most-columns (fieldOf file 6))
+    (not (eqb (fieldOf file 0) (fileLength (fieldOf file 4) (fieldOf file 6)))))
+
+field-small : (file : List ℕ) (at : ℕ) → ((i : ℕ) → getD file i 0 < 256) → fieldOf file at < 65536
+unfolding fieldOf
+field-small file at bytes = omega (arith, bytes at, bytes (at + 1))
+
+field-front : (most : ℕ) (file : List ℕ) (at : ℕ) → at + 1 < most → fieldOf (take most file) at ≡ fieldOf file at
+unfolding fieldOf
+field-front most file at h = rw (getD-take most file at 0 (omega arith), getD-take most file (at + 1) 0 h)
+
+-- so the front of such a file, if it too is longer than any length field, comes to what all of the file does
+pub front-decides : (most : ℕ) (file : List ℕ) (room : ℕ) → ((i : ℕ) → getD file i 0 < 256) → 65536 ≤ most → most ≤ length file →
+    compileOf (take most file) room ≡ compileOf file room
+unfolding compileOf matrixOf
+front-decides most file room bytes a b =
+    let same = field-front most file in
+    let long : length (take most file) ≡ most = length-take-le most file b in
+    let small : fieldOf file 0 < 65536 = field-small file 0 bytes in
+    let front = long-header (take most file) (rw long (omega arith)) (rw (same 0 (omega arith), long) (omega arith)) in
+    rw (front, long-header file (omega arith) (omega arith), same 2 (omega arith), same 4 (omega arith), same 6 (omega arith))
