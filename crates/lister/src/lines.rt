@@ -31,7 +31,7 @@ fn print_three(name: &[u8], a: u16, b: u16, c: u16) {
 }
 
 // The line of an instruction: position, name, operands.
-pub fn print_line(position: u32, i: Instruction) {
+pub(crate) fn print_line(position: u32, i: Instruction) {
     io::print_decimal(STDOUT_FILENO, position as u64);
     match i {
         Instruction::Ones(to) => print_one(b" ONES", to),
@@ -46,7 +46,7 @@ pub fn print_line(position: u32, i: Instruction) {
 }
 
 // The first line: registers, inputs, outputs, count.
-pub fn print_header(p: Program) {
+pub(crate) fn print_header(p: Program) {
     io::print_decimal(STDOUT_FILENO, p.registers as u64);
     print_next(p.inputs as u64);
     print_next(p.outputs as u64);
@@ -55,7 +55,7 @@ pub fn print_header(p: Program) {
 }
 
 // The line of a refusal.
-pub fn print_refusal(why: Refusal) {
+pub(crate) fn print_refusal(why: Refusal) {
     io::write_all(STDOUT_FILENO, b"refused");
     print_next(files::number(why) as u64);
     print_newline();

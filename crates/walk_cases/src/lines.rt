@@ -3,13 +3,13 @@ ghost use Prim.Native.Nat.{_≤_, _<_};
 ghost use lib.ListN.{length};
 ghost use Rattle.io.specs.Counts.{Counts};
 
-pub fn least(a: usize, b: usize) -> usize
+pub(crate) fn least(a: usize, b: usize) -> usize
     ensures { λ r. ⌜ (r ≤ a) × (r ≤ b) ⌝ }
 {
     if a < b { a } else { b }
 }
 
-pub fn wide(x: u8) -> usize
+pub(crate) fn wide(x: u8) -> usize
     ensures { λ r. ⌜ r < 256 ⌝ }
 {
     x as usize
@@ -27,7 +27,7 @@ fn nibble(x: u8) -> u8
 }
 
 // Puts the bytes that the text spells at the front of `bytes`, as many as there is room for, and answers how many.
-pub fn decode(text: &[u8], bytes: &mut [u8]) -> usize
+pub(crate) fn decode(text: &[u8], bytes: &mut [u8]) -> usize
     ensures { λ r. ⌜ Counts r (now (bytes .exit)) ⌝ }
 {
     for k in 0..bytes.len() {
@@ -40,7 +40,7 @@ pub fn decode(text: &[u8], bytes: &mut [u8]) -> usize
 }
 
 // Where the line that begins at `at` ends: at the next newline, or with the text.
-pub fn line_end(text: &[u8], at: usize) -> usize
+pub(crate) fn line_end(text: &[u8], at: usize) -> usize
     requires { ⌜ at ≤ length (now text) ⌝ }
     ensures { λ r. ⌜ (at ≤ r) × (r ≤ length (now (text .entry))) ⌝ }
 {

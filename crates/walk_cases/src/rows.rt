@@ -34,7 +34,7 @@ fn print_number(top: usize, bytes: &[u8]) {
 }
 
 // T, the sum of the rows, and a newline, for columns that fill their bytes.
-pub fn print_total(file: &[u8]) {
+pub(crate) fn print_total(file: &[u8]) {
     let rows = files::field(file, 4);
     let width = (files::field(file, 6) + 7) / 8;
     let mut sum = [0u8; 16];
@@ -66,7 +66,7 @@ fn any_one(file: &[u8], at: usize, columns: usize) -> bool {
 }
 
 // The highest row with a 1 in its first `columns` columns.
-pub fn highest(file: &[u8], columns: usize) -> usize {
+pub(crate) fn highest(file: &[u8], columns: usize) -> usize {
     let rows = files::field(file, 4);
     let width = (files::field(file, 6) + 7) / 8;
     let mut found: usize = 0;
