@@ -1,0 +1,60 @@
+-- `vectors::print_sample_digits` meets its contract: the samples are passed one by one. Assumes nothing.
+use borrow.Author.Needs.{needs}
+use Prim.Native.Nat.{_-_, _≤_}
+use mathlib.Core.Path.{_≡_}
+use lib.ListN.{length}
+use Rattle.vectors.proofs.answers.print_sample_digits.Statement.{statement}
+use Rattle.vectors.proofs.answers.print_sample_digits.Tie as tie
+
+abbrev Inv-loop : tie.InvT-loop
+Inv-loop samples k₀ k-end k = (k ≤ k-end) × (k-end ≡ length samples)
+
+abbrev μ-loop : tie.MeasureT-loop
+μ-loop samples k₀ k-end k = k-end - k
+
+print-space-requires : tie.Need-print-space-requires Inv-loop μ-loop
+print-space-requires c κs = search needs
+
+loop-holds : tie.Need-loop-holds Inv-loop μ-loop
+loop-holds c = search needs
+
+mul-pattern : tie.Need-mul-pattern Inv-loop μ-loop
+mul-pattern c = search needs
+
+shared-slice-copy-out-pattern : tie.Need-shared-slice-copy-out-pattern Inv-loop μ-loop
+shared-slice-copy-out-pattern c = search needs
+
+pattern-requires : tie.Need-pattern-requires Inv-loop μ-loop
+pattern-requires c κs = search needs
+
+print-hex-requires : tie.Need-print-hex-requires Inv-loop μ-loop
+print-hex-requires c κs = search needs
+
+add-k : tie.Need-add-k Inv-loop μ-loop
+add-k c = search needs
+
+loop-less : tie.Need-loop-less Inv-loop μ-loop
+loop-less c = search needs
+
+loop-again : tie.Need-loop-again Inv-loop μ-loop
+loop-again c = search needs
+
+returns : tie.Need-returns Inv-loop μ-loop
+returns c = search needs
+
+pub print-sample-digits-spec : {M : Type 1} → statement M
+print-sample-digits-spec =
+    tie.close
+    (tie.spec
+    Inv-loop
+    μ-loop
+    print-space-requires
+    loop-holds
+    mul-pattern
+    shared-slice-copy-out-pattern
+    pattern-requires
+    print-hex-requires
+    add-k
+    loop-less
+    loop-again
+    returns)

@@ -1,0 +1,143 @@
+// The cases of matrix files.
+ghost use Prim.Native.Nat.{_≤_};
+use crate::answers::FILL;
+use crate::answers::begin;
+use crate::answers::print_laid;
+use crate::answers::print_size;
+use crate::answers::refuse;
+use crate::answers::see_bytes;
+use crate::fields::field;
+use crate::fields::least;
+use crate::fields::size;
+use crate::fields::take_bytes;
+use crate::fields::take_shorts;
+use files::Checked;
+use files::Usage;
+use files::Written;
+use walk::Walked;
+
+// Room for the bytes that a line gives, or that are lent for a file.
+pub const BYTES: usize = 4160;
+
+// Room for entries that are lent.
+const ENTRIES: usize = 16448;
+
+// m × n of a matrix.
+fn product(m: usize, n: usize) -> usize {
+    least(m, files::ROWS) * least(n, files::COLUMNS)
+}
+
+fn print_read(answer: Checked, entries: &[u8; ENTRIES]) {
+    match answer {
+        Checked::Refused(why) => {
+            refuse(why);
+            see_bytes(entries);
+        }
+        Checked::Matrix { rows, columns } => {
+            begin();
+            print_size(rows);
+            print_size(columns);
+            print_laid(entries, product(rows, columns));
+        }
+    }
+}
+
+// FILE entries-lent
+pub fn read_case(line: &[u8]) {
+    let mut file = [0u8; BYTES];
+    let n = take_bytes(field(line, 1), &mut file);
+    let mut entries = [FILL; ENTRIES];
+    let lent = least(size(field(line, 2)), ENTRIES);
+    let answer = files::read(&file[..n], &mut entries[0..lent]);
+    print_read(answer, &entries);
+}
+
+// The answer of an operation that writes a file.
+pub fn print_written(answer: Written, lent: &[u8]) {
+    match answer {
+        Written::Refused(why) => {
+            refuse(why);
+            see_bytes(lent);
+        }
+        Written::Length(n) => {
+            begin();
+            print_size(n);
+            print_laid(lent, n);
+        }
+    }
+}
+
+fn print_matrix(answer: Written, file: &[u8; BYTES]) {
+    print_written(answer, file);
+}
+
+// rows columns ENTRIES file-lent
+pub fn write_case(line: &[u8]) {
+    let rows = size(field(line, 1));
+    let columns = size(field(line, 2));
+    let mut entries = [0u8; BYTES];
+    let n = take_bytes(field(line, 3), &mut entries);
+    let mut file = [FILL; BYTES];
+    let lent = least(size(field(line, 4)), BYTES);
+    let answer = files::write(rows, columns, &entries[..n], &mut file[0..lent]);
+    print_matrix(answer, &file);
+}
+
+// What weights serve: 0 is plain use.
+fn usage(signed: usize) -> Usage {
+    if signed == 0 {
+        Usage::Plain
+    } else {
+        Usage::Signed
+    }
+}
+
+// WEIGHTS columns signed file-lent
+pub fn build_case(line: &[u8]) {
+    let mut weights = [0u32; 256];
+    let n = take_shorts(field(line, 1), &mut weights);
+    let columns = size(field(line, 2));
+    let signed = usage(size(field(line, 3)));
+    let mut file = [FILL; BYTES];
+    let lent = least(size(field(line, 4)), BYTES);
+    let answer = files::build(&weights[..n], columns, signed, &mut file[0..lent]);
+    print_matrix(answer, &file);
+}
+
+fn print_walked(answer: Walked) {
+    match answer {
+        Walked::Refused(why) => refuse(why),
+        Walked::Hit(row) => {
+            begin();
+            print_size(row);
+        }
+        Walked::Miss => {
+            begin();
+            print_size(255);
+        }
+    }
+}
+
+// FILE STRING
+pub fn walk_case(line: &[u8]) {
+    let mut file = [0u8; BYTES];
+    let n = take_bytes(field(line, 1), &mut file);
+    let mut string = [0u8; BYTES];
+    let s = take_bytes(field(line, 2), &mut string);
+    print_walked(walk::walk(&file[..n], &string[..s]));
+}
+
+// FILE, which is read; what was read is written
+pub fn rewrite_case(line: &[u8]) {
+    let mut file = [0u8; BYTES];
+    let n = take_bytes(field(line, 1), &mut file);
+    let mut entries = [0u8; ENTRIES];
+    match files::read(&file[..n], &mut entries) {
+        Checked::Refused(why) => refuse(why),
+        Checked::Matrix { rows, columns } => {
+            let mut again = [FILL; BYTES];
+            let answer = files::write(rows, columns, &entries, &mut again);
+            print_matrix(answer, &again);
+        }
+    }
+}
