@@ -194,6 +194,7 @@ batch-many program strings room p outputs head e =
     let d = batch-drawable program strings room outputs e in
     batch-long program strings room d outputs e ∙ ap (λ (p : Program). p .outputs) (header-same program p (d .code) head (d .accepted))
 
+-- and no more than a program may have
 pub batch-few : (program strings : List ℕ) (room n : ℕ) → gives n ≡ mapped length (batchOf program strings room) → n ≤ most-outputs
 batch-few program strings room n e =
     let g = mapped-gives length (batchOf program strings room) n e in
@@ -225,6 +226,7 @@ at-front : (n k : ℕ) (xs buf : List ℕ) → length xs ≡ n → k < n → get
 unfolding lay
 at-front n k xs buf l h = sym (List·getD-append xs (drop (length xs) buf) 0 k (omega arith))
 
+-- slicing into words that are too many gives the same
 slice-any : (n : ℕ) (strings : List ℕ) (r : ℕ) → n ≤ r → sliceOf n strings n ≡ sliceOf n strings r
 unfolding sliceOf
 slice-any n strings r h = rw (le-ltb n n (omega arith), le-ltb r n h)
@@ -278,6 +280,7 @@ module _ (program strings : List ℕ) (room : ℕ) where
               for-outputs = omega (arith, limits .few-outputs);
             }
 
+        -- the batch is a start on the words of the engine's own
         start-own : batchOf program strings room ≡ mapped (λ e. e .state .outputs) (startOf program (lay ws blank) registers outputs (p .count))
         start-own = by (checkOf program) refl
           where

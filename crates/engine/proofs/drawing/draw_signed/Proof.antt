@@ -27,7 +27,7 @@ array-share-prefix-outputs c =
 slice-aggregate-signed-samples : tie.Need-slice-aggregate-signed-samples
 slice-aggregate-signed-samples c =
     let many = rw (c .before .before .n .given .1) at (c .before .before .before .before .before .run-batch .ensures .0) in
-    part-long _ _ (omega (arith, batch-few _ _ _ _ many))
+    part-long _ (c .before .before .before .before .before .run-batch .last .1 .1 .1 .0) (omega (arith, batch-few _ _ _ _ many))
 
 signed-samples-requires : tie.Need-signed-samples-requires
 signed-samples-requires c κs = search needs
