@@ -1,6 +1,4 @@
 // The fields of an answer: each is printed with a space before it, but for the first, 0 or the number of a refusal.
-ghost use Prim.Native.Nat.{_≤_};
-ghost use lib.ListN.{length};
 use crate::fields::least;
 use crate::fields::wide;
 use crate::hashes::EMPTY;
@@ -10,35 +8,35 @@ use files::Refusal;
 use libc::STDOUT_FILENO;
 
 // What fills bytes, samples and words before they are lent.
-pub const FILL: u8 = 0xa5;
+pub(crate) const FILL: u8 = 0xa5;
 
-pub const FILL_SAMPLE: i16 = 0x5aa5;
+pub(crate) const FILL_SAMPLE: i16 = 0x5aa5;
 
-pub const FILL_WORD: u64 = 0xa5a5_a5a5_a5a5_a5a5;
+pub(crate) const FILL_WORD: u64 = 0xa5a5_a5a5_a5a5_a5a5;
 
 // An answer that is no refusal begins.
-pub fn begin() {
+pub(crate) fn begin() {
     io::write_all(STDOUT_FILENO, b"0");
 }
 
-pub fn refuse(why: Refusal) {
+pub(crate) fn refuse(why: Refusal) {
     io::print_hex(STDOUT_FILENO, files::number(why) as u64, 1);
 }
 
-pub fn end_line() {
+pub(crate) fn end_line() {
     io::write_all(STDOUT_FILENO, b"\n");
 }
 
-pub fn print_number(n: u64) {
+pub(crate) fn print_number(n: u64) {
     io::write_all(STDOUT_FILENO, b" ");
     io::print_hex(STDOUT_FILENO, n, 1);
 }
 
-pub fn print_size(n: usize) {
+pub(crate) fn print_size(n: usize) {
     print_number(n as u64);
 }
 
-pub fn print_hash(hash: u64) {
+pub(crate) fn print_hash(hash: u64) {
     io::write_all(STDOUT_FILENO, b" #");
     io::print_hex(STDOUT_FILENO, hash, 16);
 }
@@ -82,7 +80,7 @@ fn print_bytes(bytes: &[u8]) {
 }
 
 // Words in full, or by their hash where they take more than 256 bytes.
-pub fn print_words(words: &[u64]) {
+pub(crate) fn print_words(words: &[u64]) {
     if words.len() == 0 {
         print_none();
     } else if words.len() <= 32 {
@@ -105,7 +103,7 @@ fn print_sample_digits(samples: &[i16]) {
 }
 
 // Sees that bytes are as they were filled.
-pub fn see_bytes(bytes: &[u8]) {
+pub(crate) fn see_bytes(bytes: &[u8]) {
     for k in 0..bytes.len() {
         if bytes[k] != FILL {
             return print_touched();
@@ -114,7 +112,7 @@ pub fn see_bytes(bytes: &[u8]) {
 }
 
 // Sees that words are what they were before, from place `from` on.
-pub fn see_words(words: &[u64], before: &[u64], from: usize) {
+pub(crate) fn see_words(words: &[u64], before: &[u64], from: usize) {
     for k in from..least(words.len(), before.len()) {
         if words[k] != before[k] {
             return print_touched();
@@ -122,7 +120,7 @@ pub fn see_words(words: &[u64], before: &[u64], from: usize) {
     }
 }
 
-pub fn see_samples(samples: &[i16]) {
+pub(crate) fn see_samples(samples: &[i16]) {
     for k in 0..samples.len() {
         if samples[k] != FILL_SAMPLE {
             return print_touched();
@@ -131,21 +129,21 @@ pub fn see_samples(samples: &[i16]) {
 }
 
 // A result at the front of lent bytes. The rest must be as it was filled.
-pub fn print_laid(lent: &[u8], n: usize) {
+pub(crate) fn print_laid(lent: &[u8], n: usize) {
     let laid = least(n, lent.len());
     print_bytes(&lent[0..laid]);
     see_bytes(&lent[laid..]);
 }
 
 // A result at the front of lent words. The rest must be what it was before.
-pub fn print_laid_words(lent: &[u64], before: &[u64], n: usize) {
+pub(crate) fn print_laid_words(lent: &[u64], before: &[u64], n: usize) {
     let laid = least(n, lent.len());
     print_words(&lent[0..laid]);
     see_words(lent, before, laid);
 }
 
 // A result at the front of lent samples. The rest must be as it was filled.
-pub fn print_laid_samples(lent: &[i16], n: usize) {
+pub(crate) fn print_laid_samples(lent: &[i16], n: usize) {
     let laid = least(n, lent.len());
     print_sample_digits(&lent[0..laid]);
     see_samples(&lent[laid..]);

@@ -4,20 +4,20 @@ ghost use lib.ListN.{length};
 ghost use Rattle.io.specs.Counts.{Counts};
 
 // The smaller of the two.
-pub fn least(a: usize, b: usize) -> usize
+pub(crate) fn least(a: usize, b: usize) -> usize
     ensures { λ r. ⌜ (r ≤ a) × (r ≤ b) ⌝ }
 {
     if a < b { a } else { b }
 }
 
-pub fn wide(x: u8) -> u64
+pub(crate) fn wide(x: u8) -> u64
     ensures { λ r. ⌜ r < 256 ⌝ }
 {
     x as u64
 }
 
 // Where the piece that begins at `at` ends: at the next `mark`, or with the text.
-pub fn piece_end(text: &[u8], at: usize, mark: u8) -> usize
+pub(crate) fn piece_end(text: &[u8], at: usize, mark: u8) -> usize
     requires { ⌜ at ≤ length (now text) ⌝ }
     ensures { λ r. ⌜ (at ≤ r) × (r ≤ length (now (text .entry))) ⌝ }
 {
@@ -40,7 +40,7 @@ fn field_begin(line: &[u8], k: usize) -> usize
 }
 
 // Field k; it is empty where the line has none.
-pub fn field(line: &[u8], k: usize) -> &[u8] {
+pub(crate) fn field(line: &[u8], k: usize) -> &[u8] {
     let from = field_begin(line, k);
     let to = piece_end(line, from, b' ');
     &line[from..to]
@@ -58,7 +58,7 @@ fn nibble(x: u8) -> u8
 }
 
 // The number that the last 16 digits spell.
-pub fn number(text: &[u8]) -> u64 {
+pub(crate) fn number(text: &[u8]) -> u64 {
     let mut n: u64 = 0;
     for k in 0..text.len() {
         n = 16 * (n % 1_152_921_504_606_846_976) + nibble(text[k]) as u64;
@@ -67,17 +67,17 @@ pub fn number(text: &[u8]) -> u64 {
 }
 
 // A number as a size.
-pub fn size(text: &[u8]) -> usize {
+pub(crate) fn size(text: &[u8]) -> usize {
     number(text) as usize
 }
 
 // A number of 32 bits.
-pub fn short(text: &[u8]) -> u32 {
+pub(crate) fn short(text: &[u8]) -> u32 {
     (number(text) % 4_294_967_296) as u32
 }
 
 // Puts the bytes that the text spells at the front of `bytes`, as many as there is room for, and answers how many. (`-` spells none.)
-pub fn take_bytes(text: &[u8], bytes: &mut [u8]) -> usize
+pub(crate) fn take_bytes(text: &[u8], bytes: &mut [u8]) -> usize
     ensures { λ r. ⌜ Counts r (now (bytes .exit)) ⌝ }
 {
     for k in 0..bytes.len() {
@@ -90,7 +90,7 @@ pub fn take_bytes(text: &[u8], bytes: &mut [u8]) -> usize
 }
 
 // The same for numbers of 32 bits.
-pub fn take_shorts(text: &[u8], shorts: &mut [u32]) -> usize
+pub(crate) fn take_shorts(text: &[u8], shorts: &mut [u32]) -> usize
     ensures { λ r. ⌜ Counts r (now (shorts .exit)) ⌝ }
 {
     for k in 0..shorts.len() {
@@ -103,7 +103,7 @@ pub fn take_shorts(text: &[u8], shorts: &mut [u32]) -> usize
 }
 
 // The same for words.
-pub fn take_words(text: &[u8], words: &mut [u64]) -> usize
+pub(crate) fn take_words(text: &[u8], words: &mut [u64]) -> usize
     ensures { λ r. ⌜ Counts r (now (words .exit)) ⌝ }
 {
     for k in 0..words.len() {

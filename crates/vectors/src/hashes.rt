@@ -2,7 +2,7 @@
 use crate::fields::wide;
 
 // What the hash of nothing is.
-pub const EMPTY: u64 = 0xcbf2_9ce4_8422_2325;
+pub(crate) const EMPTY: u64 = 0xcbf2_9ce4_8422_2325;
 
 // A hash with one byte more: exclusive or, then 2^40 + 435 times, modulo 2^64.
 fn with_byte(hash: u64, byte: u64) -> u64 {
@@ -14,7 +14,7 @@ fn with_byte(hash: u64, byte: u64) -> u64 {
 }
 
 // A hash with so many bytes of a number more, the lowest first.
-pub fn with_number(hash: u64, number: u64, bytes: usize) -> u64 {
+pub(crate) fn with_number(hash: u64, number: u64, bytes: usize) -> u64 {
     let mut grown = hash;
     let mut rest = number;
     for k in 0..bytes {
@@ -25,7 +25,7 @@ pub fn with_number(hash: u64, number: u64, bytes: usize) -> u64 {
 }
 
 // A hash with bytes more.
-pub fn with_bytes(hash: u64, bytes: &[u8]) -> u64 {
+pub(crate) fn with_bytes(hash: u64, bytes: &[u8]) -> u64 {
     let mut grown = hash;
     for k in 0..bytes.len() {
         grown = with_byte(grown, wide(bytes[k]));
@@ -34,7 +34,7 @@ pub fn with_bytes(hash: u64, bytes: &[u8]) -> u64 {
 }
 
 // A hash with words more.
-pub fn with_words(hash: u64, words: &[u64]) -> u64 {
+pub(crate) fn with_words(hash: u64, words: &[u64]) -> u64 {
     let mut grown = hash;
     for k in 0..words.len() {
         grown = with_number(grown, words[k], 8);

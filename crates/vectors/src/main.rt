@@ -1,6 +1,7 @@
 // Test vectors of the reference, another implementation of the engine: standard input has a case a line, and for each an answer is printed, as
 // reference/README.md says. Both what is given and what must be printed are made by the reference.
 mod answers;
+mod compiled;
 mod fields;
 mod hashes;
 mod matrices;
@@ -31,6 +32,8 @@ fn short_case(task: usize, line: &[u8]) {
         0x9 => words::slice_case(line),
         0xa => words::samples_case(line),
         0xb => words::signed_samples_case(line),
+        0xc => compiled::draw_case(line),
+        0xd => compiled::draw_signed_case(line),
         0x10 => matrices::rewrite_case(line),
         _ => {}
     }
@@ -39,6 +42,9 @@ fn short_case(task: usize, line: &[u8]) {
 // The cases with a program that is too long for a line.
 fn long_case(task: usize, line: &[u8], program: &mut [u8]) {
     match task {
+        0x5 => compiled::compile_case(line, program),
+        0x11 => compiled::draws_case(line, program),
+        0x12 => compiled::stops_case(line, program),
         0x13 => runs::long_check_case(line, program),
         0x14 => runs::long_start_case(line, program),
         _ => short_case(task, line),

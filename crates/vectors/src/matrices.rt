@@ -1,5 +1,4 @@
 // The cases of matrix files.
-ghost use Prim.Native.Nat.{_≤_};
 use crate::answers::FILL;
 use crate::answers::begin;
 use crate::answers::print_laid;
@@ -17,7 +16,7 @@ use files::Written;
 use walk::Walked;
 
 // Room for the bytes that a line gives, or that are lent for a file.
-pub const BYTES: usize = 4160;
+pub(crate) const BYTES: usize = 4160;
 
 // Room for entries that are lent.
 const ENTRIES: usize = 16448;
@@ -43,7 +42,7 @@ fn print_read(answer: Checked, entries: &[u8; ENTRIES]) {
 }
 
 // FILE entries-lent
-pub fn read_case(line: &[u8]) {
+pub(crate) fn read_case(line: &[u8]) {
     let mut file = [0u8; BYTES];
     let n = take_bytes(field(line, 1), &mut file);
     let mut entries = [FILL; ENTRIES];
@@ -53,7 +52,7 @@ pub fn read_case(line: &[u8]) {
 }
 
 // The answer of an operation that writes a file.
-pub fn print_written(answer: Written, lent: &[u8]) {
+pub(crate) fn print_written(answer: Written, lent: &[u8]) {
     match answer {
         Written::Refused(why) => {
             refuse(why);
@@ -72,7 +71,7 @@ fn print_matrix(answer: Written, file: &[u8; BYTES]) {
 }
 
 // rows columns ENTRIES file-lent
-pub fn write_case(line: &[u8]) {
+pub(crate) fn write_case(line: &[u8]) {
     let rows = size(field(line, 1));
     let columns = size(field(line, 2));
     let mut entries = [0u8; BYTES];
@@ -93,7 +92,7 @@ fn usage(signed: usize) -> Usage {
 }
 
 // WEIGHTS columns signed file-lent
-pub fn build_case(line: &[u8]) {
+pub(crate) fn build_case(line: &[u8]) {
     let mut weights = [0u32; 256];
     let n = take_shorts(field(line, 1), &mut weights);
     let columns = size(field(line, 2));
@@ -119,7 +118,7 @@ fn print_walked(answer: Walked) {
 }
 
 // FILE STRING
-pub fn walk_case(line: &[u8]) {
+pub(crate) fn walk_case(line: &[u8]) {
     let mut file = [0u8; BYTES];
     let n = take_bytes(field(line, 1), &mut file);
     let mut string = [0u8; BYTES];
@@ -128,7 +127,7 @@ pub fn walk_case(line: &[u8]) {
 }
 
 // FILE, which is read; what was read is written
-pub fn rewrite_case(line: &[u8]) {
+pub(crate) fn rewrite_case(line: &[u8]) {
     let mut file = [0u8; BYTES];
     let n = take_bytes(field(line, 1), &mut file);
     let mut entries = [0u8; ENTRIES];

@@ -45,7 +45,7 @@ fn print_checked(answer: Checked) {
 }
 
 // PROGRAM
-pub fn check_case(line: &[u8]) {
+pub(crate) fn check_case(line: &[u8]) {
     let mut program = [0u8; BYTES];
     let n = take_bytes(field(line, 1), &mut program);
     print_checked(machine::check(&program[..n]));
@@ -92,7 +92,7 @@ fn print_ran(
 }
 
 // PROGRAM INPUTS registers-lent outputs-lent budget
-pub fn start_case(line: &[u8]) {
+pub(crate) fn start_case(line: &[u8]) {
     let mut bytes = [0u8; BYTES];
     let n = take_bytes(field(line, 1), &mut bytes);
     let program = &bytes[..n];
@@ -114,7 +114,7 @@ pub fn start_case(line: &[u8]) {
 }
 
 // PROGRAM INPUTS REGISTERS OUTPUTS position budget
-pub fn resume_case(line: &[u8]) {
+pub(crate) fn resume_case(line: &[u8]) {
     let mut bytes = [0u8; BYTES];
     let n = take_bytes(field(line, 1), &mut bytes);
     let program = &bytes[..n];
@@ -181,13 +181,13 @@ fn take_program(line: &[u8], program: &mut [u8]) -> usize
 }
 
 // FIRST MIDDLE times LAST
-pub fn long_check_case(line: &[u8], program: &mut [u8]) {
+pub(crate) fn long_check_case(line: &[u8], program: &mut [u8]) {
     let n = take_program(line, program);
     print_checked(machine::check(&program[..n]));
 }
 
 // A hash with a run more: its numbers, registers and outputs.
-pub fn with_run(hash: u64, run: Run, registers: &[u64], outputs: &[u64]) -> u64 {
+fn with_run(hash: u64, run: Run, registers: &[u64], outputs: &[u64]) -> u64 {
     let mut grown = with_number(hash, run.position as u64, 4);
     grown = with_number(grown, run.count as u64, 4);
     grown = with_number(grown, run.finished as u64, 1);
@@ -195,7 +195,7 @@ pub fn with_run(hash: u64, run: Run, registers: &[u64], outputs: &[u64]) -> u64 
 }
 
 // What is left of a program's runs: the last one with the count of all of them, the outputs, and the hash.
-pub fn print_end(program: &[u8], last: Run, count: u32, outputs: &[u64], hash: u64) {
+pub(crate) fn print_end(program: &[u8], last: Run, count: u32, outputs: &[u64], hash: u64) {
     let o = least(outputs_of(program), outputs.len());
     print_run(last, count);
     print_words(&outputs[0..o]);
@@ -203,7 +203,13 @@ pub fn print_end(program: &[u8], last: Run, count: u32, outputs: &[u64], hash: u
 }
 
 // A hash with a run of a program more.
-pub fn with_call(hash: u64, program: &[u8], run: Run, registers: &[u64], outputs: &[u64]) -> u64 {
+pub(crate) fn with_call(
+    hash: u64,
+    program: &[u8],
+    run: Run,
+    registers: &[u64],
+    outputs: &[u64],
+) -> u64 {
     let r = least(registers_of(program), registers.len());
     let o = least(outputs_of(program), outputs.len());
     with_run(hash, run, &registers[0..r], &outputs[0..o])
@@ -222,7 +228,7 @@ fn long_start(program: &[u8], inputs: &[u64], budget: u32) {
 }
 
 // FIRST MIDDLE times LAST INPUTS budget
-pub fn long_start_case(line: &[u8], program: &mut [u8]) {
+pub(crate) fn long_start_case(line: &[u8], program: &mut [u8]) {
     let n = take_program(line, program);
     let mut inputs = [0u64; Program::INPUTS];
     let i = take_words(field(line, 5), &mut inputs);

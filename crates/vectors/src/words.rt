@@ -24,7 +24,7 @@ use lanes::Sliced;
 // Room for words and for samples that are lent.
 const WORDS: usize = 160;
 
-const SAMPLES: usize = 96;
+pub(crate) const SAMPLES: usize = 96;
 
 fn print_sliced(answer: Sliced, words: &[u64; WORDS], before: &[u64; WORDS]) {
     match answer {
@@ -40,7 +40,7 @@ fn print_sliced(answer: Sliced, words: &[u64; WORDS], before: &[u64; WORDS]) {
 }
 
 // columns STRINGS words-lent
-pub fn slice_case(line: &[u8]) {
+pub(crate) fn slice_case(line: &[u8]) {
     let columns = size(field(line, 1));
     let mut strings = [0u8; BYTES];
     let n = take_bytes(field(line, 2), &mut strings);
@@ -51,7 +51,7 @@ pub fn slice_case(line: &[u8]) {
     print_sliced(answer, &words, &before);
 }
 
-fn print_sampled(answer: Sampled, samples: &[u8; SAMPLES]) {
+pub(crate) fn print_sampled(answer: Sampled, samples: &[u8; SAMPLES]) {
     match answer {
         Sampled::Refused(why) => {
             refuse(why);
@@ -65,7 +65,7 @@ fn print_sampled(answer: Sampled, samples: &[u8; SAMPLES]) {
 }
 
 // OUTPUTS samples-lent
-pub fn samples_case(line: &[u8]) {
+pub(crate) fn samples_case(line: &[u8]) {
     let mut outputs = [0u64; 16];
     let n = take_words(field(line, 1), &mut outputs);
     let mut samples = [FILL; SAMPLES];
@@ -74,7 +74,7 @@ pub fn samples_case(line: &[u8]) {
     print_sampled(answer, &samples);
 }
 
-fn print_signed(answer: Sampled, samples: &[i16; SAMPLES]) {
+pub(crate) fn print_signed(answer: Sampled, samples: &[i16; SAMPLES]) {
     match answer {
         Sampled::Refused(why) => {
             refuse(why);
@@ -88,7 +88,7 @@ fn print_signed(answer: Sampled, samples: &[i16; SAMPLES]) {
 }
 
 // OUTPUTS sign samples-lent
-pub fn signed_samples_case(line: &[u8]) {
+pub(crate) fn signed_samples_case(line: &[u8]) {
     let mut outputs = [0u64; 16];
     let n = take_words(field(line, 1), &mut outputs);
     let sign = number(field(line, 2));
