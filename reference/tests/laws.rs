@@ -289,31 +289,23 @@ fn lent_memory_beyond_the_result_is_untouched() {
     assert_eq!(lent::compile(&file, &mut program, &mut length), 0);
     assert_eq!((length, &program[114..]), (114, &[0xa5; 6][..]));
 
-    let (mut registers, mut outputs) = ([9; 12], [9; 3]);
-    let (mut position, mut count, mut finished) = (8, 8, true);
-    let refusal = lent::start(
-        &program,
-        &[1],
-        &mut registers,
-        &mut outputs,
-        4,
-        &mut position,
-        &mut count,
-        &mut finished,
-    );
-    assert_eq!((refusal, registers, outputs), (4, [9; 12], [9; 3]));
-    assert_eq!((position, count, finished), (8, 8, true));
-    let done = lent::start(
-        &program[..114],
-        &[1],
-        &mut registers,
-        &mut outputs,
-        4,
-        &mut position,
-        &mut count,
-        &mut finished,
-    );
-    assert_eq!((done, position, count, finished), (0, 4, 4, false));
-    assert_eq!(registers, [1, 0, 0, 0, u64::MAX, 0, 0, 0, 0, 0, 9, 9]);
-    assert_eq!(outputs, [0, 0, 9]);
+    let start = |program: &[u8]| {
+        let (mut registers, mut outputs) = ([9; 12], [9; 3]);
+        let (mut position, mut count, mut finished) = (8, 8, true);
+        let returned = lent::start(
+            program,
+            &[1],
+            &mut registers,
+            &mut outputs,
+            4,
+            &mut position,
+            &mut count,
+            &mut finished,
+        );
+        (returned, registers, outputs, (position, count, finished))
+    };
+    assert_eq!(start(&program), (4, [9; 12], [9; 3], (8, 8, true)));
+    let registers = [1, 0, 0, 0, u64::MAX, 0, 0, 0, 0, 0, 9, 9];
+    let run = (4, 4, false);
+    assert_eq!(start(&program[..114]), (0, registers, [0, 0, 9], run));
 }

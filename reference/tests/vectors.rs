@@ -53,44 +53,34 @@ fn refusals_are_all_met() {
             given.split(' ').next() == Some(task) && rest.split(' ').next() == Some(answer)
         })
     };
-    let matrix = ["0", "1", "2", "3", "4", "5", "6"];
-    let program = ["0", "1", "2", "3", "4", "7", "8", "9", "a"];
-    for (task, more) in [("1", "d"), ("4", "d"), ("5", "d"), ("10", "0")] {
-        matrix
-            .iter()
-            .chain([&more])
-            .for_each(|answer| assert!(met(task, answer), "{task} {answer}"));
-    }
-    for (task, more) in [
-        ("6", "0"),
-        ("7", "d"),
-        ("8", "c"),
-        ("8", "d"),
-        ("c", "d"),
-        ("c", "5"),
-    ] {
-        program
-            .iter()
-            .chain([&more])
-            .for_each(|answer| assert!(met(task, answer), "{task} {answer}"));
-    }
-    for (task, answers) in [
-        ("2", "0 3 5 6 d"),
-        ("3", "0 3 b d"),
-        ("9", "0 3 5 d"),
-        ("a", "0 3 d"),
-        ("b", "0 3 d"),
-        ("d", "0 5 d"),
-        ("11", "0"),
-        ("12", "0"),
-        ("13", "0 1 3 4"),
-        ("14", "0"),
-    ] {
-        answers
-            .split(' ')
-            .for_each(|answer| assert!(met(task, answer), "{task} {answer}"));
+    for (task, answers) in ANSWERS {
+        for answer in answers.split(' ') {
+            assert!(met(task, answer), "{task} {answer}");
+        }
     }
 }
+
+/// Each task with the answers that it has: 0, or a refusal's number in hexadecimal.
+const ANSWERS: [(&str, &str); 18] = [
+    ("1", "0 1 2 3 4 5 6 d"),
+    ("2", "0 3 5 6 d"),
+    ("3", "0 3 b d"),
+    ("4", "0 1 2 3 4 5 6 d"),
+    ("5", "0 1 2 3 4 5 6 d"),
+    ("6", "0 1 2 3 4 7 8 9 a"),
+    ("7", "0 1 2 3 4 7 8 9 a d"),
+    ("8", "0 1 2 3 4 7 8 9 a c d"),
+    ("9", "0 3 5 d"),
+    ("a", "0 3 d"),
+    ("b", "0 3 d"),
+    ("c", "0 1 2 3 4 5 7 8 9 a d"),
+    ("d", "0 5 d"),
+    ("10", "0 1 2 3 4 5 6"),
+    ("11", "0"),
+    ("12", "0"),
+    ("13", "0 1 3 4"),
+    ("14", "0"),
+];
 
 /// README, "How large the fields get": task, field, digits an element (0 for a number), the most.
 const SIZES: [(&str, usize, usize, u64); 33] = [

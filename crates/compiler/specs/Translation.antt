@@ -134,12 +134,3 @@ compileOf file room = do
   M ← matrixOf file
   refuse 13 (ltb room (length (compiled M)))
   gives (compiled M)
-
--- ---- 01, "Checked by hand": the listing for rows 1, 1 of one column
-abbrev two-ones : Matrix
-two-ones = record { rows = 2; columns = 1; entries = 1 ∷ 1 ∷ [] }
-
-listed : (program two-ones ≡ record { registers = 10; inputs = 1; outputs = 2; count = 12 }) × (translation two-ones ≡
-    Ones 4 ∷ Zero 2 ∷ Zero 3 ∷ Input 0 0 ∷ Not 1 0 ∷ And 6 4 1 ∷ And 7 4 0 ∷ Or 2 2 6 ∷ Or 3 3 6 ∷ Or 2 2 7 ∷ Output 0 2 ∷ Output 1 3 ∷ [])
-unfolding program translation begin split mark met marks keep end column ifSet liveBefore rowBits bitsToWrite weight sumTo bit blocks
-listed = (refl, refl)

@@ -19,7 +19,8 @@ use Rattle.machine.specs.Runs.{Ended, startOf}
 use Rattle.walk.specs.Walk.{Answer, drawn, answerOf, walkOf}
 use Rattle.walk.specs.Theorems.{walk-is}
 use Rattle.lanes.specs.Slicing.{lanes, stringAt, wordOf}
-use Rattle.lanes.specs.Samples.{most-outputs, sampleOf, code, signedCode, eachLane, samplesOf, signedSamplesOf, lanes-give}
+use Rattle.programs.specs.Limits.{most-outputs}
+use Rattle.lanes.specs.Samples.{sampleOf, code, signedCode, eachLane, samplesOf, signedSamplesOf, lanes-give}
 use Rattle.lanes.specs.Lanes.{lane-of-word, word-lt, string-bit, string-sound}
 use Rattle.compiler.specs.Translation.{program, compiled}
 use Rattle.compiler.specs.Width.{few-bits}

@@ -16,13 +16,15 @@ use Rattle.files.specs.Matrix.{bit, p, total}
 use Rattle.files.specs.Files.{fileLength, headerBytes, matrixFile, headerOf, unpacked, bodyOf, matrixOf, readOf, writeOf}
 use Rattle.files.specs.Strings.{stringsOf}
 use Rattle.files.specs.Weights.{sum, share, built, buildOf}
+use Rattle.programs.specs.declared.description.Program.{Program}
+use Rattle.programs.specs.declared.description.Instruction.{Instruction}
+use Rattle.programs.specs.declared.description.Instruction.the-variants.{Ones, Zero, Input, Not, And, Or, Output}
 use Rattle.programs.specs.Records.{recordBytes}
 use Rattle.programs.specs.Instructions.{instructionBytes, decodeOf, sizedOf}
 use Rattle.programs.specs.Header.{codeBytes, programFile, headerOf as programHeaderOf, headerBytes as programHeader, numbersOf as programNumbers}
 use Rattle.machine.specs.Meaning.{exec}
 use Rattle.machine.specs.Checks.{checkOf, codeOf, instructionOf, also}
 use Rattle.machine.specs.Runs.{startOf, startOn, runOf}
-use Rattle.machine.specs.Listing.{listed, listing}
 use Rattle.machine.specs.declared.runs.Run.{Run}
 use Rattle.compiler.specs.Translation.{bitsToWrite, rowBits, begin, split, ifSet, mark, met, marks, keep, end, liveBefore, column, translation, program, compiled, compileOf}
 use Rattle.files.specs.Live.{weight}
@@ -46,6 +48,14 @@ pub data Case : Type 0 where
   compiles : List ℕ → Outcome (List ℕ) → Case
   -- a matrix file and a budget, and what the start of its program answers: 1 for finished or 0 for stopped, position and count
   starts : List ℕ → ℕ → Outcome (List ℕ) → Case
+
+-- the program of the listing, for rows 1, 1 of one column
+listed : Program
+listed = record { registers = 10; inputs = 1; outputs = 2; count = 12 }
+
+listing : List Instruction
+listing =
+    Ones 4 ∷ Zero 2 ∷ Zero 3 ∷ Input 0 0 ∷ Not 1 0 ∷ And 6 4 1 ∷ And 7 4 0 ∷ Or 2 2 6 ∷ Or 3 3 6 ∷ Or 2 2 7 ∷ Output 0 2 ∷ Output 1 3 ∷ []
 
 pub cases : List Case
 cases =
@@ -163,5 +173,5 @@ all-come (c ∷ cs) e =
 
 -- ---- the table holds
 pub cases-hold : All-come cases
-unfolding cases comes must all-agree agrees same fieldOf packedBit padded packed spare bit p total headerBytes matrixFile headerOf unpacked bodyOf matrixOf readOf writeOf sum share built buildOf stringsOf rowOf at scan then walk drawn walkOf recordBytes instructionBytes decodeOf sizedOf codeBytes programFile programHeaderOf programHeader programNumbers exec checkOf codeOf instructionOf also startOn runOf bitsToWrite rowBits begin split ifSet mark met marks keep end liveBefore column translation program compiled compileOf weight numbersOf sumTo any number digit blocks upto
+unfolding listed listing cases comes must all-agree agrees same fieldOf packedBit padded packed spare bit p total headerBytes matrixFile headerOf unpacked bodyOf matrixOf readOf writeOf sum share built buildOf stringsOf rowOf at scan then walk drawn walkOf recordBytes instructionBytes decodeOf sizedOf codeBytes programFile programHeaderOf programHeader programNumbers exec checkOf codeOf instructionOf also startOn runOf bitsToWrite rowBits begin split ifSet mark met marks keep end liveBefore column translation program compiled compileOf weight numbersOf sumTo any number digit blocks upto
 cases-hold = all-come cases refl

@@ -162,13 +162,6 @@ module _ (program strings : List ℕ) (room : ℕ) where
         (rw (start-agrees words program (d .code) (d .accepted) (header .count) (d .inputs) _ _ inputs registers outputs own-room r same)
         (bind-is (startOf program inputs registers outputs (header .count)) (λ e. e .state .outputs)))
 
-    -- and a drawing reads them
-    pub drawn-starts : {A : Type 0} (read : List ℕ → Outcome A) (inputs registers outputs : List ℕ) → Room header inputs registers outputs →
-        ((k : ℕ) → k < header .inputs → getD (d .inputs) k 0 ≡ getD inputs k 0) →
-        (e : Ended ℕ) → startOf program inputs registers outputs (header .count) ≡ gives e → drawnWith program strings room read ≡ read (e .state .outputs)
-    drawn-starts read inputs registers outputs r same e q =
-        drawn-is program strings room read ∙ rw (batch-starts inputs registers outputs r same, q)
-
     -- as many outputs as the header says
     batch-long : (outputs : List ℕ) → batchOf program strings room ≡ gives outputs → length outputs ≡ header .outputs
     unfolding drawnWith runOf

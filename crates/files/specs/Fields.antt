@@ -71,11 +71,6 @@ pub bit-read : (bytes : List ℕ) (at i : ℕ) → bitAnd (getD bytes (at + i / 
 unfolding packedBit digit
 bit-read bytes at i = and-mask (getD bytes (at + i / 8) 0 / 2 ^ (7 - i % 8)) 1
 
--- the same bits in a part of the bytes
-pub bit-drop : (k : ℕ) (bytes : List ℕ) (at i : ℕ) → bitOf (drop k bytes) at i ≡ bitOf bytes (k + at) i
-unfolding packedBit
-bit-drop k bytes at i = ap (λ (x : ℕ). digit 8 x (i % 8)) (getD-drop k bytes (at + i / 8) 0 ∙ ap (λ (j : ℕ). getD bytes j 0) (omega arith))
-
 -- ---- spare bits
 -- they are the low bits of the last byte
 pub spare-bits : (bytes : List ℕ) (n at : ℕ) → 0 < n →

@@ -158,10 +158,6 @@ pub strided-read : (bytes : List ℕ) (first stride shift v : ℕ) → bitAnd (g
 unfolding strided
 strided-read bytes first stride shift v = and-one (getD bytes (first + v * stride) 0 / 2 ^ shift)
 
-pub strided-le : (bytes : List ℕ) (first stride shift v : ℕ) → strided bytes first stride shift v ≤ 1
-unfolding strided
-strided-le bytes first stride shift v = omega arith
-
 -- a column's ones are its weight
 pub strided-weight : (bytes : List ℕ) (per stride m c : ℕ) →
     sumTo m (strided bytes (c / per) stride (per - 1 - c % per)) ≡ weight (λ v. packedBit per bytes (v * stride)) m c

@@ -21,9 +21,10 @@ use Rattle.laws.specs.Outcome.{Outcome, refused, gives, refuse, _>>_, gives-inj
 use Rattle.files.specs.Fields.{bitOf, packedBit, bit-le, spare, width}
 use Rattle.files.specs.Matrix.{outside, most-columns}
 use Rattle.files.specs.Strings.{stringsOf}
+use Rattle.programs.specs.Limits.{most-outputs}
 use Rattle.walk.specs.Walk.{Answer, sample, missed}
 use Rattle.lanes.specs.Slicing.{lanes, sliceOf, stringAt, wordOf}
-use Rattle.lanes.specs.Samples.{code, eachLane, hits, most-outputs, sampleOf, sampled, samplesOf, signedCode, signedSamplesOf, spelled}
+use Rattle.lanes.specs.Samples.{code, eachLane, hits, sampleOf, sampled, samplesOf, signedCode, signedSamplesOf, spelled}
 use Rattle.lanes.specs.declared.sampling.Sampled.the-variants as Sampled
 
 -- what a result holds at a place is what the buffer holds there

@@ -17,14 +17,11 @@ use Rattle.laws.specs.Lay.{upto}
 use Rattle.laws.specs.Outcome.{Outcome, refused, gives, refuse, _>>_}
 use Rattle.files.specs.Matrix.{outside}
 use Rattle.files.specs.Refusal.{numberOf}
+use Rattle.programs.specs.Limits.{most-outputs}
 use Rattle.walk.specs.Walk.{Answer, sample, missed}
 use Rattle.lanes.specs.Slicing.{lanes}
 use Rattle.lanes.specs.declared.sampling.Sampled.{Sampled}
 use Rattle.lanes.specs.declared.sampling.Sampled.the-variants as Sampled
-
--- the limit: 1 to 8 output words
-abbrev pub most-outputs : ℕ
-most-outputs = 8
 
 -- whether bit j of output 0 is set
 unfoldable pub hits : List ℕ → ℕ → Bool

@@ -7,7 +7,6 @@ mod sampling;
 mod slicing;
 
 pub use sampling::MISS;
-pub use sampling::OUTPUTS;
 pub use sampling::SIGNED_MISS;
 pub use sampling::Sampled;
 pub use sampling::samples;

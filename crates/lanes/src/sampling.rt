@@ -5,13 +5,12 @@ ghost use lib.ListN.{length};
 ghost use Rattle.laws.specs.Lay.{lay};
 ghost use Rattle.laws.specs.Outcome.{laid, mapped};
 ghost use Rattle.laws.specs.Words.{bitAt};
+ghost use Rattle.programs.specs.Limits.{most-outputs};
 ghost use Rattle.lanes.specs.Slicing.{lanes};
-ghost use Rattle.lanes.specs.Samples.{code, hits, most-outputs, negatedIf, sampled, sampleOf, samplesOf, signedCode, signedSamplesOf, spelled};
+ghost use Rattle.lanes.specs.Samples.{code, hits, negatedIf, sampled, sampleOf, samplesOf, signedCode, signedSamplesOf, spelled};
 use crate::slicing::LANES;
 use files::Refusal;
-
-// The largest number of output words.
-pub const OUTPUTS: usize = 8;
+use programs::Program;
 
 // What stands for a miss among samples, and among signed samples.
 pub const MISS: u8 = 255;
@@ -95,7 +94,7 @@ pub fn samples(outputs: &[u64], samples: &mut [u8]) -> Sampled
     if outputs.len() < 1 {
         return Sampled::Refused(Refusal::Size);
     }
-    if OUTPUTS < outputs.len() {
+    if Program::OUTPUTS < outputs.len() {
         return Sampled::Refused(Refusal::Size);
     }
     if samples.len() < LANES {
@@ -115,7 +114,7 @@ pub fn signed_samples(outputs: &[u64], sign: u64, samples: &mut [i16]) -> Sample
     if outputs.len() < 1 {
         return Sampled::Refused(Refusal::Size);
     }
-    if OUTPUTS < outputs.len() {
+    if Program::OUTPUTS < outputs.len() {
         return Sampled::Refused(Refusal::Size);
     }
     if samples.len() < LANES {

@@ -2,7 +2,6 @@
 pub mod Meaning
 pub mod Checks
 pub mod Runs
-pub mod Listing
 pub mod Standing
 pub mod Turns
 pub mod Checking

@@ -112,9 +112,6 @@ some-ready n nr ni nq file at l f =
     let e : n ≡ suc (n - 1) = omega arith in
     formed-ready (n - 1) nr ni nq file at (rw e at f)
 
-pub known-ready : (n nr : ℕ) (file : List ℕ) (at : ℕ) → 0 < n → (k : Known n nr (drop at file)) → Ready file at nr (k .ni) (k .nq)
-known-ready n nr file at l k = some-ready n nr (k .ni) (k .nq) file at l (k .formed)
-
 -- fewer of them are there too
 onGives-map : (o : Outcome Instruction) (P Q : Instruction → Type 0) → ((i : Instruction) → P i → Q i) → onGives o ⊥ P → onGives o ⊥ Q
 onGives-map (refused k) P Q f h = h

@@ -7,7 +7,8 @@ use Rattle.laws.specs.Lay.{Laid, upto, upto-none, laid-store, upto-done, lay-is
 use Rattle.laws.specs.Outcome.{ends-refused, ends-given}
 use Rattle.files.specs.Checks.{inside, below, above}
 use Rattle.lanes.specs.Slicing.{lanes}
-use Rattle.lanes.specs.Samples.{code, most-outputs, sampleOf, lanes-size, lanes-short, lanes-give}
+use Rattle.programs.specs.Limits.{most-outputs}
+use Rattle.lanes.specs.Samples.{code, sampleOf, lanes-size, lanes-short, lanes-give}
 use Rattle.lanes.proofs.sampling.samples.Statement.{statement}
 use Rattle.lanes.proofs.sampling.samples.Tie as tie
 
