@@ -1,4 +1,5 @@
 -- Definitions first, then the demands and what follows from them, then the table of cases.
+pub mod Calls
 pub mod Given
 pub mod Drawing
 pub mod Lanewise
@@ -6,4 +7,5 @@ pub mod Demand2
 pub mod Demand3
 pub mod Batches
 pub mod Draws
+pub mod Waiting
 pub mod Cases

@@ -1,0 +1,207 @@
+/*
+ * Corkhollow: the 64-lane Knuth-Yao noise engine.
+ *
+ * A table of probabilities (a matrix file) is compiled to a program of ANDs, ORs and NOTs, which runs on 64-bit words: 64 samples a run.
+ * Link libengine.a, which `rt staticlib engine` writes to target/staticlib/.
+ *
+ * What every function keeps to:
+ *
+ * - It returns 0 (CORKHOLLOW_OK), or the number of one refusal (enum corkhollow_refusal).
+ * - It takes any content and any length. A length counts elements, not bytes. Where a length is 0 the pointer is not followed and may be
+ *   null; any other pointer is to as many elements as its length says, aligned for its type, and a pointer to a number is never null.
+ * - Memory that is changed overlaps nothing else that is lent in the same call.
+ * - On a refusal nothing lent has changed, the numbers included. On success a buffer has its result at the front; beyond that
+ *   nothing has changed.
+ * - A buffer longer than needed is never refused, and its rest is neither read nor written. A file is exactly its length: bytes left over
+ *   are a refusal.
+ * - A string of n bits is packed into CORKHOLLOW_WIDTH(n) bytes, bit 0 highest in the first byte. Where n is no multiple of 8, the spare low
+ *   bits of the last byte must be 0: clear them in random bytes. README.md has the layout of the files.
+ * - It keeps nothing between calls, takes no memory but some of the stack (under 16 KiB), makes no random bits and always returns.
+ *
+ * These are proved, with the answers, in the source (crates/engine). The declarations below are not: they are kept in step by
+ * the tests in tests/interface.
+ */
+#ifndef CORKHOLLOW_H
+#define CORKHOLLOW_H
+
+#include <stdbool.h>
+#include <stddef.h>
+#include <stdint.h>
+
+#ifdef __cplusplus
+extern "C" {
+#endif
+
+/* Why an operation was refused. Where a call breaks several rules, each function says below which it tries first. */
+enum corkhollow_refusal {
+    CORKHOLLOW_OK = 0,
+    CORKHOLLOW_SHORT = 1,       /* a matrix file under 8 bytes or shorter than its length field, a program file under 14, an instruction cut short */
+    CORKHOLLOW_KIND = 2,        /* the first record is not of the kind expected */
+    CORKHOLLOW_SIZE = 3,        /* rows, columns, weights, registers, inputs, outputs, instructions or output words outside the limits */
+    CORKHOLLOW_LENGTH = 4,      /* a length field that is not what the header requires, or bytes left over */
+    CORKHOLLOW_BIT = 5,         /* a spare bit set, or an entry neither 0 nor 1 */
+    CORKHOLLOW_SUM = 6,         /* the rows of the matrix add up to more than 2^columns */
+    CORKHOLLOW_INSTRUCTION = 7, /* an instruction's kind is not 1 to 7, or its length not that kind's */
+    CORKHOLLOW_OPERAND = 8,     /* an operand is not below its count */
+    CORKHOLLOW_UNWRITTEN = 9,   /* a register is read that no earlier instruction wrote */
+    CORKHOLLOW_UNSET = 10,      /* an output that no instruction sets */
+    CORKHOLLOW_WEIGHTLESS = 11, /* all weights are 0 */
+    CORKHOLLOW_POSITION = 12,   /* a resume position above the program's instruction count */
+    CORKHOLLOW_BUFFER = 13      /* a lent buffer is too short for its own input or its own result */
+};
+
+/* Limits. Rows, columns, weights, registers, inputs and outputs begin at 1, instructions at 0. */
+#define CORKHOLLOW_LANES 64
+#define CORKHOLLOW_ROWS 128
+#define CORKHOLLOW_COLUMNS 128
+#define CORKHOLLOW_REGISTERS 1024
+#define CORKHOLLOW_INPUTS 128
+#define CORKHOLLOW_OUTPUTS 8
+#define CORKHOLLOW_INSTRUCTIONS 131072
+
+/* What stands for a miss: as a sample or a row, and as a signed sample. */
+#define CORKHOLLOW_MISS 255
+#define CORKHOLLOW_SIGNED_MISS 32767
+
+/* The bytes of one packed string or row, and of a matrix file. */
+#define CORKHOLLOW_WIDTH(columns) (((size_t)(columns) + 7) / 8)
+#define CORKHOLLOW_MATRIX_LENGTH(rows, columns) (8 + (size_t)(rows) * CORKHOLLOW_WIDTH(columns))
+
+/* Buffers of these lengths are never too short: entries, a matrix file, a program file, the 64 strings of a batch. */
+#define CORKHOLLOW_MOST_ENTRIES (CORKHOLLOW_ROWS * CORKHOLLOW_COLUMNS)
+#define CORKHOLLOW_MOST_MATRIX_BYTES CORKHOLLOW_MATRIX_LENGTH(CORKHOLLOW_ROWS, CORKHOLLOW_COLUMNS)
+#define CORKHOLLOW_MOST_PROGRAM_BYTES (14 + 10 * (size_t)CORKHOLLOW_INSTRUCTIONS)
+#define CORKHOLLOW_MOST_STRING_BYTES (CORKHOLLOW_LANES * CORKHOLLOW_WIDTH(CORKHOLLOW_COLUMNS))
+
+/* ---- matrix files ---- */
+
+/*
+ * Reads a matrix file: its entries, a byte of 0 or 1 each, row after row, at the front of `entries`, and its sizes.
+ * Refusals, in the order tried: 1, 2, 3, 4, 5, 6 for the file; 13 for `entries` under rows * columns.
+ */
+uint32_t corkhollow_read(const uint8_t *file, size_t file_length,
+                         uint8_t *entries, size_t entries_length,
+                         size_t *rows, size_t *columns);
+
+/*
+ * Writes a matrix file of the first rows * columns entries, row after row, and its length.
+ * Refusals, in the order tried: 3 for the sizes, 13 for `entries`, 5 for an entry, 6, 13 for `file`.
+ */
+uint32_t corkhollow_write(size_t rows, size_t columns,
+                          const uint8_t *entries, size_t entries_length,
+                          uint8_t *file, size_t file_length,
+                          size_t *length);
+
+/*
+ * Builds a matrix file from weights, and tells its length: row v is the largest number of `columns` bits not above 2^columns times
+ * weight v over the sum of all. Weight v is that of sample v, or for signed use of distance v; both are built alike. With a sign, 0 has one
+ * value and every other distance two: halve the weight of 0 for signed use, or 0 comes twice as often as the curve says.
+ * Refusals, in the order tried: 3 for the number of weights or columns, 11, 13 for `file`.
+ */
+uint32_t corkhollow_build(const uint32_t *weights, size_t weights_length,
+                          size_t columns, bool is_signed,
+                          uint8_t *file, size_t file_length,
+                          size_t *length);
+
+/*
+ * Walks a matrix file on one packed string of as many bits as it has columns: the row that is hit, or CORKHOLLOW_MISS.
+ * Refusals, in the order tried: 1, 2, 3, 4, 5, 6 for the file; 13, then 5 for the string.
+ */
+uint32_t corkhollow_walk(const uint8_t *file, size_t file_length,
+                         const uint8_t *string, size_t string_length,
+                         size_t *row);
+
+/* ---- program files ---- */
+
+/*
+ * Compiles a matrix file to a program file, and tells its length.
+ * Refusals, in the order tried: 1, 2, 3, 4, 5, 6 for the file; 13 for `program`.
+ */
+uint32_t corkhollow_compile(const uint8_t *file, size_t file_length,
+                            uint8_t *program, size_t program_length,
+                            size_t *length);
+
+/*
+ * Checks a program file: the registers, inputs and outputs that it takes, and its number of instructions.
+ * Refusals, in the order tried: 1, 2, 3, 4 for the header; 1, 7, 8, 9 for each instruction in turn; 4 for bytes left over; 10.
+ */
+uint32_t corkhollow_check(const uint8_t *program, size_t program_length,
+                          size_t *registers, size_t *inputs, size_t *outputs, uint32_t *count);
+
+/*
+ * Starts a program: the whole program is checked, the registers and outputs that its header counts are set to 0, and it runs from instruction
+ * 0 until `budget` instructions are carried out or none is left. Tells the position reached, the instructions carried out in this call, and
+ * whether the program has finished. None of the three depends on the words.
+ * Refusals, in the order tried: those of corkhollow_check; 13 for `inputs`, `registers` or `outputs`.
+ */
+uint32_t corkhollow_start(const uint8_t *program, size_t program_length,
+                          const uint64_t *inputs, size_t inputs_length,
+                          uint64_t *registers, size_t registers_length,
+                          uint64_t *outputs, size_t outputs_length,
+                          uint32_t budget,
+                          uint32_t *position, uint32_t *count, bool *finished);
+
+/*
+ * Resumes a program, checked again, at a position and clears nothing: with program, inputs, registers and outputs as a stop left them it ends as the unbroken
+ * run does. Input words that no instruction before the position reads may be filled in between. Tells what corkhollow_start tells, the
+ * position in `position_out`.
+ * Refusals, in the order tried: those of corkhollow_check; 12; 13 for `inputs`, `registers` or `outputs`.
+ */
+uint32_t corkhollow_resume(const uint8_t *program, size_t program_length,
+                           const uint64_t *inputs, size_t inputs_length,
+                           uint64_t *registers, size_t registers_length,
+                           uint64_t *outputs, size_t outputs_length,
+                           uint32_t position, uint32_t budget,
+                           uint32_t *position_out, uint32_t *count, bool *finished);
+
+/* ---- lanes ---- */
+
+/*
+ * Slices 64 packed strings, one after another, of `columns` bits each, into `columns` words: bit j of word i is bit i of string j.
+ * Refusals, in the order tried: 3 for the columns, 13 for `strings`, 5 for a spare bit, 13 for `words`.
+ */
+uint32_t corkhollow_slice(size_t columns,
+                          const uint8_t *strings, size_t strings_length,
+                          uint64_t *words, size_t words_length);
+
+/*
+ * Reads 64 samples off output words: sample j is the number that bit j of words 1 and up spells, lowest first, where bit j of word 0 is set,
+ * and otherwise CORKHOLLOW_MISS. All `outputs_length` words are read: lend as many as the program has outputs.
+ * Refusals, in the order tried: 3 for the number of words, 13 for `samples` under 64.
+ */
+uint32_t corkhollow_samples(const uint64_t *outputs, size_t outputs_length,
+                            uint8_t *samples, size_t samples_length);
+
+/*
+ * Reads 64 signed samples: sample j is negated where bit j of `sign` is set. Zero stays zero, and a miss is CORKHOLLOW_SIGNED_MISS.
+ * Refusals, in the order tried: 3 for the number of words, 13 for `samples` under 64.
+ */
+uint32_t corkhollow_signed_samples(const uint64_t *outputs, size_t outputs_length,
+                                   uint64_t sign,
+                                   int16_t *samples, size_t samples_length);
+
+/* ---- all in one call ---- */
+
+/*
+ * Draws 64 samples: checks the program, slices 64 packed strings of as many bits as it has inputs, starts it on words of the engine's own
+ * until it finishes, and reads the samples. No batch can inherit another's words.
+ * Refusals, in the order tried: those of corkhollow_check; 13, then 5 for `strings`; 13 for `samples` under 64.
+ */
+uint32_t corkhollow_draw(const uint8_t *program, size_t program_length,
+                         const uint8_t *strings, size_t strings_length,
+                         uint8_t *samples, size_t samples_length);
+
+/*
+ * Draws 64 signed samples, with a sign word as for corkhollow_signed_samples.
+ * Refusals as for corkhollow_draw.
+ */
+uint32_t corkhollow_draw_signed(const uint8_t *program, size_t program_length,
+                                const uint8_t *strings, size_t strings_length,
+                                uint64_t sign,
+                                int16_t *samples, size_t samples_length);
+
+#ifdef __cplusplus
+}
+#endif
+
+#endif

@@ -1,0 +1,481 @@
+//! Corkhollow from Rust: what `corkhollow.h` declares, and a safe function for each of it.
+//!
+//! Take this file into a crate by `#[path = ".."] mod corkhollow;` and link the static library `engine`, which `rt staticlib engine` writes to
+//! target/staticlib/. The header says what each operation takes, gives and refuses. A refusal has changed nothing that was lent.
+//!
+//! Nothing proves these declarations: they are kept in step with the engine by the tests in tests/interface.
+#![allow(dead_code)] // a program that uses some of the operations need not use all
+
+use std::fmt;
+
+pub const LANES: usize = 64;
+pub const ROWS: usize = 128;
+pub const COLUMNS: usize = 128;
+pub const REGISTERS: usize = 1024;
+pub const INPUTS: usize = 128;
+pub const OUTPUTS: usize = 8;
+pub const INSTRUCTIONS: usize = 131_072;
+
+/// A miss, as a sample.
+pub const MISS: u8 = 255;
+/// A miss, as a signed sample.
+pub const SIGNED_MISS: i16 = 32_767;
+
+/// Buffers of these lengths are never too short: entries, a matrix file, a program file, the 64 strings of a batch.
+pub const MOST_ENTRIES: usize = ROWS * COLUMNS;
+pub const MOST_MATRIX_BYTES: usize = matrix_length(ROWS, COLUMNS);
+pub const MOST_PROGRAM_BYTES: usize = 14 + 10 * INSTRUCTIONS;
+pub const MOST_STRING_BYTES: usize = LANES * width(COLUMNS);
+
+/// The bytes of one packed string or row.
+pub const fn width(columns: usize) -> usize {
+    columns.div_ceil(8)
+}
+
+/// The bytes of a matrix file.
+pub const fn matrix_length(rows: usize, columns: usize) -> usize {
+    8 + rows * width(columns)
+}
+
+/// The functions as they are linked; the header says what they promise.
+pub mod raw {
+    extern "C" {
+        pub fn corkhollow_read(
+            file: *const u8,
+            file_length: usize,
+            entries: *mut u8,
+            entries_length: usize,
+            rows: *mut usize,
+            columns: *mut usize,
+        ) -> u32;
+        pub fn corkhollow_write(
+            rows: usize,
+            columns: usize,
+            entries: *const u8,
+            entries_length: usize,
+            file: *mut u8,
+            file_length: usize,
+            length: *mut usize,
+        ) -> u32;
+        pub fn corkhollow_build(
+            weights: *const u32,
+            weights_length: usize,
+            columns: usize,
+            is_signed: bool,
+            file: *mut u8,
+            file_length: usize,
+            length: *mut usize,
+        ) -> u32;
+        pub fn corkhollow_walk(
+            file: *const u8,
+            file_length: usize,
+            string: *const u8,
+            string_length: usize,
+            row: *mut usize,
+        ) -> u32;
+        pub fn corkhollow_compile(
+            file: *const u8,
+            file_length: usize,
+            program: *mut u8,
+            program_length: usize,
+            length: *mut usize,
+        ) -> u32;
+        pub fn corkhollow_check(
+            program: *const u8,
+            program_length: usize,
+            registers: *mut usize,
+            inputs: *mut usize,
+            outputs: *mut usize,
+            count: *mut u32,
+        ) -> u32;
+        pub fn corkhollow_start(
+            program: *const u8,
+            program_length: usize,
+            inputs: *const u64,
+            inputs_length: usize,
+            registers: *mut u64,
+            registers_length: usize,
+            outputs: *mut u64,
+            outputs_length: usize,
+            budget: u32,
+            position: *mut u32,
+            count: *mut u32,
+            finished: *mut bool,
+        ) -> u32;
+        pub fn corkhollow_resume(
+            program: *const u8,
+            program_length: usize,
+            inputs: *const u64,
+            inputs_length: usize,
+            registers: *mut u64,
+            registers_length: usize,
+            outputs: *mut u64,
+            outputs_length: usize,
+            position: u32,
+            budget: u32,
+            position_out: *mut u32,
+            count: *mut u32,
+            finished: *mut bool,
+        ) -> u32;
+        pub fn corkhollow_slice(
+            columns: usize,
+            strings: *const u8,
+            strings_length: usize,
+            words: *mut u64,
+            words_length: usize,
+        ) -> u32;
+        pub fn corkhollow_samples(
+            outputs: *const u64,
+            outputs_length: usize,
+            samples: *mut u8,
+            samples_length: usize,
+        ) -> u32;
+        pub fn corkhollow_signed_samples(
+            outputs: *const u64,
+            outputs_length: usize,
+            sign: u64,
+            samples: *mut i16,
+            samples_length: usize,
+        ) -> u32;
+        pub fn corkhollow_draw(
+            program: *const u8,
+            program_length: usize,
+            strings: *const u8,
+            strings_length: usize,
+            samples: *mut u8,
+            samples_length: usize,
+        ) -> u32;
+        pub fn corkhollow_draw_signed(
+            program: *const u8,
+            program_length: usize,
+            strings: *const u8,
+            strings_length: usize,
+            sign: u64,
+            samples: *mut i16,
+            samples_length: usize,
+        ) -> u32;
+    }
+}
+
+/// Why an operation was refused, by its number in the header's table.
+#[derive(Clone, Copy, Debug, PartialEq, Eq)]
+pub struct Refusal(pub u32);
+
+impl fmt::Display for Refusal {
+    fn fmt(&self, f: &mut fmt::Formatter) -> fmt::Result {
+        let why = match self.0 {
+            1 => "shorter than its records say",
+            2 => "not the kind of file expected",
+            3 => "a size outside the limits",
+            4 => "a length field that does not fit, or bytes left over",
+            5 => "a spare bit set, or an entry neither 0 nor 1",
+            6 => "the rows add up to more than 2^columns",
+            7 => "an instruction of no known kind or length",
+            8 => "an operand not below its count",
+            9 => "a register read before it is written",
+            10 => "an output that no instruction sets",
+            11 => "all weights are 0",
+            12 => "a resume position above the count",
+            13 => "a lent buffer is too short",
+            _ => "no refusal of the engine",
+        };
+        write!(f, "refusal {}: {why}", self.0)
+    }
+}
+
+impl std::error::Error for Refusal {}
+
+/// What a program's header says.
+#[derive(Clone, Copy, Debug, PartialEq, Eq)]
+pub struct Header {
+    pub registers: usize,
+    pub inputs: usize,
+    pub outputs: usize,
+    pub count: u32,
+}
+
+/// How a run ended: the position reached, the instructions carried out in this call, and whether the program has finished.
+#[derive(Clone, Copy, Debug, PartialEq, Eq)]
+pub struct Run {
+    pub position: u32,
+    pub count: u32,
+    pub finished: bool,
+}
+
+/// A result, where the number returned is 0.
+fn settle<T>(returned: u32, result: T) -> Result<T, Refusal> {
+    match returned {
+        0 => Ok(result),
+        number => Err(Refusal(number)),
+    }
+}
+
+/// Reads a matrix file: its rows and columns; its entries are at the front of `entries`.
+pub fn read(file: &[u8], entries: &mut [u8]) -> Result<(usize, usize), Refusal> {
+    let (mut rows, mut columns) = (0, 0);
+    // SAFETY: each pointer is that of a slice or of a number, with the slice's own length.
+    let returned = unsafe {
+        raw::corkhollow_read(
+            file.as_ptr(),
+            file.len(),
+            entries.as_mut_ptr(),
+            entries.len(),
+            &mut rows,
+            &mut columns,
+        )
+    };
+    settle(returned, (rows, columns))
+}
+
+/// Writes a matrix file of the entries, and tells its length.
+pub fn write(
+    rows: usize,
+    columns: usize,
+    entries: &[u8],
+    file: &mut [u8],
+) -> Result<usize, Refusal> {
+    let mut length = 0;
+    // SAFETY: as in `read`.
+    let returned = unsafe {
+        raw::corkhollow_write(
+            rows,
+            columns,
+            entries.as_ptr(),
+            entries.len(),
+            file.as_mut_ptr(),
+            file.len(),
+            &mut length,
+        )
+    };
+    settle(returned, length)
+}
+
+/// Builds a matrix file from weights, and tells its length.
+pub fn build(
+    weights: &[u32],
+    columns: usize,
+    signed: bool,
+    file: &mut [u8],
+) -> Result<usize, Refusal> {
+    let mut length = 0;
+    // SAFETY: as in `read`.
+    let returned = unsafe {
+        raw::corkhollow_build(
+            weights.as_ptr(),
+            weights.len(),
+            columns,
+            signed,
+            file.as_mut_ptr(),
+            file.len(),
+            &mut length,
+        )
+    };
+    settle(returned, length)
+}
+
+/// Walks a matrix file on one packed string: the row that is hit, or none.
+pub fn walk(file: &[u8], string: &[u8]) -> Result<Option<usize>, Refusal> {
+    let mut row = 0;
+    // SAFETY: as in `read`.
+    let returned = unsafe {
+        raw::corkhollow_walk(
+            file.as_ptr(),
+            file.len(),
+            string.as_ptr(),
+            string.len(),
+            &mut row,
+        )
+    };
+    settle(returned, (row != usize::from(MISS)).then_some(row))
+}
+
+/// Compiles a matrix file, and tells the program's length.
+pub fn compile(file: &[u8], program: &mut [u8]) -> Result<usize, Refusal> {
+    let mut length = 0;
+    // SAFETY: as in `read`.
+    let returned = unsafe {
+        raw::corkhollow_compile(
+            file.as_ptr(),
+            file.len(),
+            program.as_mut_ptr(),
+            program.len(),
+            &mut length,
+        )
+    };
+    settle(returned, length)
+}
+
+/// Checks a program file: what its header says.
+pub fn check(program: &[u8]) -> Result<Header, Refusal> {
+    let (mut registers, mut inputs, mut outputs, mut count) = (0, 0, 0, 0);
+    // SAFETY: as in `read`.
+    let returned = unsafe {
+        raw::corkhollow_check(
+            program.as_ptr(),
+            program.len(),
+            &mut registers,
+            &mut inputs,
+            &mut outputs,
+            &mut count,
+        )
+    };
+    let header = Header {
+        registers,
+        inputs,
+        outputs,
+        count,
+    };
+    settle(returned, header)
+}
+
+/// Starts a program on input words, from cleared registers and outputs.
+pub fn start(
+    program: &[u8],
+    inputs: &[u64],
+    registers: &mut [u64],
+    outputs: &mut [u64],
+    budget: u32,
+) -> Result<Run, Refusal> {
+    let (mut position, mut count, mut finished) = (0, 0, false);
+    // SAFETY: as in `read`.
+    let returned = unsafe {
+        raw::corkhollow_start(
+            program.as_ptr(),
+            program.len(),
+            inputs.as_ptr(),
+            inputs.len(),
+            registers.as_mut_ptr(),
+            registers.len(),
+            outputs.as_mut_ptr(),
+            outputs.len(),
+            budget,
+            &mut position,
+            &mut count,
+            &mut finished,
+        )
+    };
+    let run = Run {
+        position,
+        count,
+        finished,
+    };
+    settle(returned, run)
+}
+
+/// Resumes a program at a position, with registers and outputs as a stop left them.
+pub fn resume(
+    program: &[u8],
+    inputs: &[u64],
+    registers: &mut [u64],
+    outputs: &mut [u64],
+    position: u32,
+    budget: u32,
+) -> Result<Run, Refusal> {
+    let (mut position_out, mut count, mut finished) = (0, 0, false);
+    // SAFETY: as in `read`.
+    let returned = unsafe {
+        raw::corkhollow_resume(
+            program.as_ptr(),
+            program.len(),
+            inputs.as_ptr(),
+            inputs.len(),
+            registers.as_mut_ptr(),
+            registers.len(),
+            outputs.as_mut_ptr(),
+            outputs.len(),
+            position,
+            budget,
+            &mut position_out,
+            &mut count,
+            &mut finished,
+        )
+    };
+    let run = Run {
+        position: position_out,
+        count,
+        finished,
+    };
+    settle(returned, run)
+}
+
+/// Slices 64 packed strings into words.
+pub fn slice(columns: usize, strings: &[u8], words: &mut [u64]) -> Result<(), Refusal> {
+    // SAFETY: as in `read`.
+    let returned = unsafe {
+        raw::corkhollow_slice(
+            columns,
+            strings.as_ptr(),
+            strings.len(),
+            words.as_mut_ptr(),
+            words.len(),
+        )
+    };
+    settle(returned, ())
+}
+
+/// Reads 64 samples off output words.
+pub fn samples(outputs: &[u64], samples: &mut [u8]) -> Result<(), Refusal> {
+    // SAFETY: as in `read`.
+    let returned = unsafe {
+        raw::corkhollow_samples(
+            outputs.as_ptr(),
+            outputs.len(),
+            samples.as_mut_ptr(),
+            samples.len(),
+        )
+    };
+    settle(returned, ())
+}
+
+/// Reads 64 signed samples off output words, with a sign word.
+pub fn signed_samples(outputs: &[u64], sign: u64, samples: &mut [i16]) -> Result<(), Refusal> {
+    // SAFETY: as in `read`.
+    let returned = unsafe {
+        raw::corkhollow_signed_samples(
+            outputs.as_ptr(),
+            outputs.len(),
+            sign,
+            samples.as_mut_ptr(),
+            samples.len(),
+        )
+    };
+    settle(returned, ())
+}
+
+/// Draws 64 samples from a program and 64 packed strings.
+pub fn draw(program: &[u8], strings: &[u8], samples: &mut [u8]) -> Result<(), Refusal> {
+    // SAFETY: as in `read`.
+    let returned = unsafe {
+        raw::corkhollow_draw(
+            program.as_ptr(),
+            program.len(),
+            strings.as_ptr(),
+            strings.len(),
+            samples.as_mut_ptr(),
+            samples.len(),
+        )
+    };
+    settle(returned, ())
+}
+
+/// Draws 64 signed samples, with a sign word.
+pub fn draw_signed(
+    program: &[u8],
+    strings: &[u8],
+    sign: u64,
+    samples: &mut [i16],
+) -> Result<(), Refusal> {
+    // SAFETY: as in `read`.
+    let returned = unsafe {
+        raw::corkhollow_draw_signed(
+            program.as_ptr(),
+            program.len(),
+            strings.as_ptr(),
+            strings.len(),
+            sign,
+            samples.as_mut_ptr(),
+            samples.len(),
+        )
+    };
+    settle(returned, ())
+}
