@@ -1,12 +1,13 @@
 -- In an accepted matrix no column has more ones than there are places open, twice the live count before it. Assumes nothing.
 use Prim.Native.Nat.{ℕ, zero, suc, _+_, _*_, _^_, _≤_, _<_}
 use mathlib.Core.Path.{_≡_, refl, _∙_}
-use mathlib.Core.Bool.{Bool, true, false, _&&_}
+use mathlib.Core.Bool.{true}
 use mathlib.Core.Logic.{⊎-elim}
 use native.Mathlib.Nat.{eq-or-lt-of-le}
 use native.Mathlib.Omega.{arith}
 use borrow.Author.Tests.{le-leb, leb-true}
 use lib.Dec.{leb}
+use Rattle.laws.specs.Tests.{both}
 use Rattle.laws.specs.Places.{row-end}
 use Rattle.files.specs.Matrix.{Matrix, Accepted, bit}
 use Rattle.files.specs.Live.{weight, total-from, live, live-is}
@@ -28,10 +29,6 @@ live-le bit m (suc c) h = omega arith
 pub live-next : (m n : ℕ) (bit : ℕ → ℕ → ℕ) → Roomy m n bit → (c : ℕ) → c < n → weight bit m c + liveBefore bit m (suc c) ≤ 2 * liveBefore bit m c
 unfolding liveBefore
 live-next m n bit r c h = omega (arith, r .room c h)
-
-both : (a b : Bool) → (a && b) ≡ true → (a ≡ true) × (b ≡ true)
-both true b e = (refl, e)
-both false b e = absurd (let z : _≡_ {A = ℕ} 0 1 = cc in omega arith)
 
 -- column by column, as the live test goes
 live-room : (bit : ℕ → ℕ → ℕ) (m k c : ℕ) → live bit m c (liveBefore bit m c) k ≡ true → (i : ℕ) → c ≤ i → i < c + k →

@@ -1,11 +1,9 @@
 -- 01, "Translation": the program of a matrix, instruction by instruction, and what compiling a matrix file comes to. Assumes nothing.
 use Prim.Native.Nat.{ℕ, zero, suc, _+_, _-_, _*_, _/_, _%_, _^_, min}
-use mathlib.Core.Path.{_≡_, refl}
 use mathlib.Core.Bool.{cond}
 use mathlib.Core.List.{List, [], _∷_, _++_}
 use lib.Dec.{ltb}
 use lib.ListN.{length}
-use Rattle.laws.specs.Sums.{sumTo}
 use Rattle.laws.specs.Lay.{blocks}
 use Rattle.laws.specs.Outcome.{Outcome, gives, refuse, _>>_, _>>=_}
 use Rattle.files.specs.Matrix.{Matrix, bit}

@@ -1,12 +1,12 @@
 -- 01, "Checked by hand": the cases that are proved, in one table, proved as a whole. Assumes nothing.
 use Prim.Native.Nat.{ℕ}
-use mathlib.Core.Path.{_≡_, refl, ap, ap₂}
+use mathlib.Core.Path.{_≡_, refl, ap}
 use mathlib.Core.Bool.{Bool, true, false, _&&_, cond}
 use mathlib.Core.List.{List, [], _∷_}
-use native.Mathlib.Omega.{arith}
 use borrow.Author.Tests.{eqb-true}
 use lib.Dec.{eqb}
 use lib.ListN.{length, replicate}
+use Rattle.laws.specs.Tests.{never, both, same, same-is}
 use Rattle.laws.specs.Sums.{sumTo, any}
 use Rattle.laws.specs.Digits.{number, digit}
 use Rattle.laws.specs.Lay.{blocks, upto}
@@ -119,12 +119,6 @@ must (compiles file o) = o
 must (starts file budget o) = o
 
 -- ---- the test
-same : List ℕ → List ℕ → Bool
-same [] [] = true
-same [] (y ∷ ys) = false
-same (x ∷ xs) [] = false
-same (x ∷ xs) (y ∷ ys) = eqb x y && same xs ys
-
 agrees : Outcome (List ℕ) → Outcome (List ℕ) → Bool
 agrees (refused j) (refused k) = eqb j k
 agrees (refused j) (gives y) = false
@@ -136,28 +130,12 @@ all-agree [] = true
 all-agree (c ∷ cs) = agrees (comes c) (must c) && all-agree cs
 
 -- ---- the test is right
-both : (a b : Bool) → (a && b) ≡ true → (a ≡ true) × (b ≡ true)
-both true b e = (refl, e)
-both false b e = absurd (let z : _≡_ {A = ℕ} 0 1 = cc in omega arith)
-
-never : {A : Type 0} → false ≡ true → A
-never e = absurd (let z : _≡_ {A = ℕ} 0 1 = cc in omega arith)
-
-same-is : (xs ys : List ℕ) → same xs ys ≡ true → xs ≡ ys
-unfolding same
-same-is [] [] e = refl
-same-is [] (y ∷ ys) e = never e
-same-is (x ∷ xs) [] e = never e
-same-is (x ∷ xs) (y ∷ ys) e =
-    let s = both (eqb x y) (same xs ys) e in
-    ap₂ (λ (a : ℕ) (l : List ℕ). a ∷ l) (eqb-true x y (s .0)) (same-is xs ys (s .1))
-
 agrees-is : (o q : Outcome (List ℕ)) → agrees o q ≡ true → o ≡ q
 unfolding agrees
 agrees-is (refused j) (refused k) e = ap refused (eqb-true j k e)
 agrees-is (refused j) (gives y) e = never e
 agrees-is (gives x) (refused k) e = never e
-agrees-is (gives x) (gives y) e = ap gives (same-is x y e)
+agrees-is (gives x) (gives y) e = ap gives (same-is x y .0 e)
 
 -- every case of a list comes to what it must
 pub All-come : List Case → Type 0

@@ -7,10 +7,10 @@ use native.Mathlib.Omega.{arith}
 use borrow.Author.Tests.{lt-ltb, le-ltb, ltb-false}
 use lib.Dec.{ltb}
 use lib.IntN.{ℤ}
-use lib.ListN.{length, take, drop, getD, replicate, length-replicate, List·getD-append}
+use lib.ListN.{length, take, drop, getD, replicate, length-replicate}
 use lib.Seq.{take-at}
-use Rattle.laws.specs.Lay.{lay, length-lay, length-upto}
-use Rattle.laws.specs.Outcome.{Outcome, refused, gives, refuse, _>>_, _>>=_, mapped, laid, passed, bound, gives-inj, mapped-gives, mapped-refused}
+use Rattle.laws.specs.Lay.{lay, length-lay, length-upto, at-front}
+use Rattle.laws.specs.Outcome.{Outcome, refused, gives, refuse, _>>_, _>>=_, mapped, laid, passed, bound, gives-inj, mapped-gives, mapped-refused, bind-is, bind-after, then-after, laid-mapped}
 use Rattle.files.specs.Fields.{width}
 use Rattle.files.specs.Refusal.{numberOf}
 use Rattle.programs.specs.Limits.{most-registers, most-inputs, most-outputs}
@@ -97,19 +97,6 @@ start-agrees G file c ok budget inputs registers outputs inputs′ registers′ 
     (enough-of file c ok inputs′ registers′ outputs′ room′)
 
 -- ---- a drawing is a batch, then its outputs read
-bind-after : {A B C : Type 0} (o : Outcome A) (k : A → Outcome B) (h : B → Outcome C) (l : A → Outcome C) → ((a : A) → l a ≡ (k a >>= h)) →
-    (o >>= l) ≡ ((o >>= k) >>= h)
-bind-after (refused n) k h l e = refl
-bind-after (gives a) k h l e = e a
-
-then-after : {B C : Type 0} (u : Outcome (Unit {0})) (k : Outcome B) (h : B → Outcome C) (l : Outcome C) → l ≡ (k >>= h) → (u >> l) ≡ ((u >> k) >>= h)
-then-after (refused n) k h l e = refl
-then-after (gives a) k h l e = e
-
-bind-is : {A B : Type 0} (o : Outcome A) (f : A → B) → (o >>= (λ a. gives (f a))) ≡ mapped f o
-bind-is (refused n) f = refl
-bind-is (gives a) f = refl
-
 module _ {A : Type 0} (program strings : List ℕ) (room : ℕ) (read : List ℕ → Outcome A) where
   pub drawn-is : drawnWith program strings room read ≡ (batchOf program strings room >>= read)
   unfolding drawnWith
@@ -210,15 +197,6 @@ pub after-none : (program : List ℕ) (n : ℕ) (p : Program) → gives p ≡ ma
 unfolding afterOwn
 after-none program n p e = rw (mapped-gives (λ (c : Code). c .program) (checkOf program) p e .1)
 
-laid-mapped : {A B : Type 0} (f : A → List B) (o : Outcome A) → laid (λ xs. xs) (mapped f o) ≡ laid f o
-laid-mapped f (refused n) = refl
-laid-mapped f (gives a) = refl
-
--- what is laid at the front is what the buffer holds there
-at-front : (n k : ℕ) (xs buf : List ℕ) → length xs ≡ n → k < n → getD xs k 0 ≡ getD (lay xs buf) k 0
-unfolding lay
-at-front n k xs buf l h = sym (List·getD-append xs (drop (length xs) buf) 0 k (omega arith))
-
 -- slicing into words that are too many gives the same
 slice-any : (n : ℕ) (strings : List ℕ) (r : ℕ) → n ≤ r → sliceOf n strings n ≡ sliceOf n strings r
 unfolding sliceOf
@@ -286,7 +264,7 @@ module _ (program strings : List ℕ) (room : ℕ) where
                 let q = header-same program p c (sym head) ok in
                 batch-starts program strings room
                 (record { code = c; accepted = ok; inputs = ws; sliced = slice-own c ok ∙ sliced; enough = enough }) (lay ws blank) registers outputs (rw q own-words)
-                (λ k l. at-front (p .inputs) k ws blank ws-long (rw q at l)) ∙
+                (λ k l. sym (at-front ws blank k 0 (omega (arith, ws-long, rw q at l)))) ∙
                 ap (λ (r : Program). mapped (λ (e : Ended ℕ). e .state .outputs) (startOf program (lay ws blank) registers outputs (r .count))) q
 
       module _ (m : ℕ) (s : gives m ≡ mapped length (sliceOf (p .inputs) strings (length blank))) (inputs : List ℕ)

@@ -1,12 +1,13 @@
 -- The ways through the checks of a matrix file, and what passing them says. Assumes nothing.
 use Prim.Native.Nat.{ℕ, _+_, _*_, _^_, _≤_, _<_}
 use mathlib.Core.Path.{_≡_, refl, sym, ap, _∙_, subst}
-use mathlib.Core.Bool.{Bool, true, false, not, _||_}
+use mathlib.Core.Bool.{Bool, true, false, not}
 use mathlib.Core.List.{List}
 use native.Mathlib.Omega.{arith}
 use borrow.Author.Tests.{lt-ltb, le-ltb, eq-eqb, ne-eqb, ltb-false, leb-true, leb-false, eqb-true, not-false}
 use lib.Dec.{eqb, ltb, leb}
 use lib.ListN.{length, drop}
+use Rattle.laws.specs.Tests.{neither}
 use Rattle.laws.specs.Sums.{any, sum-eq}
 use Rattle.laws.specs.Digits.{number, number-shift}
 use Rattle.laws.specs.Lay.{upto, getD-blocks, getD-upto, length-upto}
@@ -26,13 +27,9 @@ below most x a = rw (lt-ltb x 1 a)
 pub above : (most x : ℕ) → 1 ≤ x → most < x → outside most x ≡ true
 above most x a b = rw (le-ltb x 1 a, lt-ltb most x b)
 
-either : (a b : Bool) → (a || b) ≡ false → (a ≡ false) × (b ≡ false)
-either true b e = absurd (let z : _≡_ {A = ℕ} 0 1 = cc in omega arith)
-either false b e = (refl, e)
-
 pub within : (most x : ℕ) → outside most x ≡ false → (1 ≤ x) × (x ≤ most)
 within most x e =
-    let s = either (ltb x 1) (ltb most x) e in
+    let s = neither (ltb x 1) (ltb most x) e in
     (ltb-false x 1 (s .0), ltb-false most x (s .1))
 
 -- ---- the header: what the fields are, and how far it came

@@ -9,9 +9,8 @@ use borrow.Author.Tests.{lt-ltb, le-ltb, eq-eqb, eqb-true, not-false}
 use native.Mathlib.Omega.{arith}
 use lib.Bits.{bitAnd, and-mask}
 use lib.Dec.{eqb, ltb}
-use lib.ListN.{length, getD, set, drop, length-set, List·getD-eq-default}
+use lib.ListN.{length, getD, set, length-set, List·getD-eq-default}
 use lib.Pow.{pow-pos, shl-exact}
-use lib.Seq.{getD-drop}
 use Rattle.laws.specs.Digits.{number, digit, digit-le, number-shift, low-digits, number-zero, zero-digits}
 use Rattle.laws.specs.Places.{lt-or-ge}
 use Rattle.laws.specs.Lay.{upto, layAt, layAt-after, set-is, upto-eq, length-upto}

@@ -10,14 +10,14 @@ use borrow.Author.Tests.{le-ltb, ltb-false}
 use lib.Dec.{eqb, ltb}
 use lib.IntN.{ℤ, pos, negℤ, natAbs}
 use lib.Pow.{pow-mono}
-use lib.ListN.{length, getD, drop, length-take, length-drop, List·getD-append, List·getD-eq-default}
+use lib.ListN.{length, getD, drop, length-take, length-drop, List·getD-eq-default}
 use lib.Seq.{getD-take, getD-drop}
 use Rattle.laws.specs.Sums.{any, any-false, any-all}
 use Rattle.laws.specs.Digits.{number, digit, number-shift}
 use Rattle.laws.specs.Words.{bitAt, pack, bitAt-lt, bitAt-zero, bitAt-pack, pack-bits, pack-eq, pack-lt}
 use Rattle.laws.specs.Places.{lt-or-ge, row-end}
-use Rattle.laws.specs.Lay.{lay, upto, length-upto, getD-upto}
-use Rattle.laws.specs.Outcome.{Outcome, refused, gives, refuse, _>>_, gives-inj, laid, mapped, mapped-gives, passed}
+use Rattle.laws.specs.Lay.{lay, upto, length-upto, getD-upto, at-front}
+use Rattle.laws.specs.Outcome.{gives, refuse, _>>_, gives-inj, laid, mapped, mapped-gives, passed, refuse-gives, then-gives}
 use Rattle.files.specs.Fields.{bitOf, packedBit, bit-le, spare, width}
 use Rattle.files.specs.Matrix.{outside, most-columns}
 use Rattle.files.specs.Strings.{stringsOf}
@@ -26,11 +26,6 @@ use Rattle.walk.specs.Walk.{Answer, sample, missed}
 use Rattle.lanes.specs.Slicing.{lanes, sliceOf, stringAt, wordOf}
 use Rattle.lanes.specs.Samples.{code, eachLane, hits, sampleOf, sampled, samplesOf, signedCode, signedSamplesOf, spelled}
 use Rattle.lanes.specs.declared.sampling.Sampled.the-variants as Sampled
-
--- what a result holds at a place is what the buffer holds there
-at-front : {A : Type 0} (xs buf : List A) (i : ℕ) (d : A) → i < length xs → getD (lay xs buf) i d ≡ getD xs i d
-unfolding lay
-at-front xs buf i d h = List·getD-append xs (drop (length xs) buf) d i h
 
 -- ---- slicing
 -- bit j of word i is bit i of string j
@@ -48,14 +43,10 @@ pub record Cut (n : ℕ) (strings : List ℕ) (room : ℕ) (words : List ℕ) : 
   pub fit : n ≤ room
   pub is : words ≡ upto n (wordOf strings (width n))
 
-both : {A : Type 0} (o : Outcome (Unit {0})) (rest : Outcome A) (a : A) → (o >> rest) ≡ gives a → (o ≡ gives tt) × (rest ≡ gives a)
-both (refused k) rest a e = absurd (let z : _≡_ {A = ℕ} 0 1 = cc in omega arith)
-both (gives u) rest a e = (refl, e)
-
 pub cut : (n : ℕ) (strings : List ℕ) (room : ℕ) (words : List ℕ) → sliceOf n strings room ≡ gives words → Cut n strings room words
 unfolding sliceOf
 cut n strings room words e =
-    let c = both (stringsOf lanes n strings) (refuse 13 (ltb room n) >> gives (upto n (wordOf strings (width n)))) words e in
+    let c = then-gives (stringsOf lanes n strings) (refuse 13 (ltb room n) >> gives (upto n (wordOf strings (width n)))) words e in
     let d = passed 13 (ltb room n) (gives (upto n (wordOf strings (width n)))) words (c .1) in
     record { sound = c .0; fit = ltb-false room n (d .0); is = sym (gives-inj (d .1)) }
 
@@ -101,10 +92,6 @@ unfolding stringAt
 length-string n strings j h l =
     simp (length-take, length-drop) (omega (arith, row-end {v = j} {m = lanes} {size = length strings} (width n) (width n) h refl l))
 
-not-refused : (k : ℕ) (test : Bool) (u : Unit {0}) → refuse k test ≡ gives u → test ≡ false
-not-refused k true u e = absurd (let z : _≡_ {A = ℕ} 0 1 = cc in omega arith)
-not-refused k false u e = refl
-
 -- each of the strings that slicing takes is one that a walk takes
 pub string-sound : (n : ℕ) (strings : List ℕ) (j : ℕ) → j < lanes → stringsOf lanes n strings ≡ gives tt →
     stringsOf 1 n (stringAt n strings j) ≡ gives tt
@@ -112,7 +99,7 @@ unfolding stringsOf
 string-sound n strings j h e =
     let c1 = passed 3 (outside most-columns n) _ tt e in
     let c2 = passed 13 (ltb (length strings) (lanes * width n)) _ tt (c1 .1) in
-    let c3 = not-refused 5 (any lanes (λ v. spare strings n (v * width n))) tt (c2 .1) in
+    let c3 = refuse-gives 5 (any lanes (λ v. spare strings n (v * width n))) tt (c2 .1) in
     let long : length (stringAt n strings j) ≡ width n = length-string n strings j h (ltb-false (length strings) (lanes * width n) (c2 .0)) in
     let clear : any 1 (λ v. spare (stringAt n strings j) n (v * width n)) ≡ false =
     any-all 1 (λ v. spare (stringAt n strings j) n (v * width n))

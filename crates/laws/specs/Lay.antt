@@ -94,6 +94,11 @@ module _ {A : Type 0} where
   unfolding lay
   length-lay xs buf h = simp (length-append, length-drop) (omega arith)
 
+  -- what a result holds at a place is what the buffer then holds there
+  pub at-front : (xs buf : List A) (i : ℕ) (d : A) → i < length xs → getD (lay xs buf) i d ≡ getD xs i d
+  unfolding lay
+  at-front xs buf i d h = List·getD-append xs (drop (length xs) buf) d i h
+
   pub lay-nothing : (buf : List A) → buf ≡ lay [] buf
   unfolding lay
   lay-nothing buf = refl

@@ -1,4 +1,5 @@
 -- What no single file format or machine owns, in the order in which one rests on another.
+pub mod Tests
 pub mod Sums
 pub mod Digits
 pub mod Words

@@ -1,6 +1,6 @@
 -- What an operation comes to: one refusal of 01's table by its number, or a result. Checks are tried in the order in which they stand. Assumes nothing.
 use Prim.Native.Nat.{ℕ}
-use mathlib.Core.Path.{_≡_, refl, ap}
+use mathlib.Core.Path.{_≡_, refl, sym, ap}
 use mathlib.Core.Bool.{Bool, true, false}
 use mathlib.Core.List.{List, []}
 use native.Mathlib.Omega.{arith}
@@ -40,21 +40,33 @@ laid f (gives a) = f a
 pub gives-inj : {A : Type 0} {a b : A} → gives a ≡ gives b → a ≡ b
 gives-inj e = cc
 
+-- a refusal is no result
+pub no-result : {A B : Type 0} (n : ℕ) (a : A) → refused n ≡ gives a → B
+no-result n a e = absurd (let z : _≡_ {A = ℕ} 0 1 = cc in omega arith)
+
 pub passed : {A : Type 0} (n : ℕ) (test : Bool) (rest : Outcome A) (a : A) → (refuse n test >> rest) ≡ gives a → (test ≡ false) × (rest ≡ gives a)
-passed n true rest a e = absurd (let z : _≡_ {A = ℕ} 0 1 = cc in omega arith)
+passed n true rest a e = no-result n a e
 passed n false rest a e = (refl, e)
 
 pub bound : {A B : Type 0} (o : Outcome A) (k : A → Outcome B) (b : B) → (o >>= k) ≡ gives b → (a : A) × (o ≡ gives a) × (k a ≡ gives b)
-bound (refused n) k b e = absurd (let z : _≡_ {A = ℕ} 0 1 = cc in omega arith)
+bound (refused n) k b e = no-result n b e
 bound (gives a) k b e = (a, refl, e)
 
+pub refuse-gives : (n : ℕ) (test : Bool) (u : Unit {0}) → refuse n test ≡ gives u → test ≡ false
+refuse-gives n true u e = no-result n u e
+refuse-gives n false u e = refl
+
+pub then-gives : {A : Type 0} (o : Outcome (Unit {0})) (rest : Outcome A) (a : A) → (o >> rest) ≡ gives a → (o ≡ gives tt) × (rest ≡ gives a)
+then-gives (refused n) rest a e = no-result n a e
+then-gives (gives u) rest a e = (refl, e)
+
 pub mapped-gives : {A B : Type 0} (f : A → B) (o : Outcome A) (b : B) → gives b ≡ mapped f o → (a : A) × (o ≡ gives a) × (f a ≡ b)
-mapped-gives f (refused n) b e = absurd (let z : _≡_ {A = ℕ} 0 1 = cc in omega arith)
+mapped-gives f (refused n) b e = no-result n b (sym e)
 mapped-gives f (gives a) b e = (a, refl, (cc))
 
 pub mapped-refused : {A B : Type 0} (f : A → B) (o : Outcome A) (n : ℕ) → refused n ≡ mapped f o → o ≡ refused n
 mapped-refused f (refused k) n e = ap refused (cc)
-mapped-refused f (gives a) n e = absurd (let z : _≡_ {A = ℕ} 0 1 = cc in omega arith)
+mapped-refused f (gives a) n e = no-result n (f a) e
 
 -- ---- the two ways in which an operation ends: its answer, and what its buffer holds
 pub ends-refused : {A B C : Type 0} (f : A → B) (g : A → List C) (n : ℕ) (o : Outcome A) (buf : List C) → o ≡ refused n →
@@ -64,3 +76,44 @@ ends-refused f g n o buf e = rw e (refl, lay-nothing buf)
 pub ends-given : {A B C : Type 0} (f : A → B) (g : A → List C) (a : A) (b : B) (o : Outcome A) (buf buf′ : List C) → o ≡ gives a → b ≡ f a →
     buf′ ≡ lay (g a) buf → (gives b ≡ mapped f o) × (buf′ ≡ lay (laid g o) buf)
 ends-given f g a b o buf buf′ e q l = rw e (ap gives q, l)
+
+-- ---- checks one after another
+module _ {A B : Type 0} where
+  pub bind-eq : (o : Outcome A) (k h : A → Outcome B) → ((a : A) → o ≡ gives a → k a ≡ h a) → (o >>= k) ≡ (o >>= h)
+  bind-eq (refused n) k h e = refl
+  bind-eq (gives a) k h e = e a refl
+
+  pub bind-is : (o : Outcome A) (f : A → B) → (o >>= (λ a. gives (f a))) ≡ mapped f o
+  bind-is (refused n) f = refl
+  bind-is (gives a) f = refl
+
+  pub bind-after : {C : Type 0} (o : Outcome A) (k : A → Outcome B) (h : B → Outcome C) (l : A → Outcome C) → ((a : A) → l a ≡ (k a >>= h)) →
+      (o >>= l) ≡ ((o >>= k) >>= h)
+  bind-after (refused n) k h l e = refl
+  bind-after (gives a) k h l e = e a
+
+  pub then-after : (u : Outcome (Unit {0})) (k : Outcome A) (h : A → Outcome B) (l : Outcome B) → l ≡ (k >>= h) → (u >> l) ≡ ((u >> k) >>= h)
+  then-after (refused n) k h l e = refl
+  then-after (gives a) k h l e = e
+
+  pub mapped-bind : {C : Type 0} (o : Outcome A) (k : A → Outcome B) (h : A → Outcome C) (f : C → B) → ((a : A) → k a ≡ mapped f (h a)) →
+      (o >>= k) ≡ mapped f (o >>= h)
+  mapped-bind (refused n) k h f e = refl
+  mapped-bind (gives a) k h f e = e a
+
+  pub mapped-then : (u : Outcome (Unit {0})) (k : Outcome B) (h : Outcome A) (f : A → B) → k ≡ mapped f h → (u >> k) ≡ mapped f (u >> h)
+  mapped-then (refused n) k h f e = refl
+  mapped-then (gives a) k h f e = e
+
+  pub mapped-mapped : {C : Type 0} (f : A → B) (g : B → C) (h : A → C) (o : Outcome A) → ((a : A) → g (f a) ≡ h a) →
+      mapped g (mapped f o) ≡ mapped h o
+  mapped-mapped f g h (refused n) e = refl
+  mapped-mapped f g h (gives a) e = ap gives (e a)
+
+  pub laid-mapped : (f : A → List B) (o : Outcome A) → laid (λ xs. xs) (mapped f o) ≡ laid f o
+  laid-mapped f (refused n) = refl
+  laid-mapped f (gives a) = refl
+
+pub bind-gives : {A : Type 0} (o : Outcome A) → (o >>= (λ a. gives a)) ≡ o
+bind-gives (refused n) = refl
+bind-gives (gives a) = refl

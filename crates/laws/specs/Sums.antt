@@ -6,6 +6,7 @@ use mathlib.Core.Logic.{⊎-elim}
 use native.Mathlib.Nat.{eq-or-lt-of-le, le-of-suc-le-suc}
 use native.Mathlib.Numerals.{add-one}
 use native.Mathlib.Omega.{arith}
+use Rattle.laws.specs.Tests.{neither}
 
 -- g 0 + .. + g (n - 1)
 unfoldable pub sumTo : ℕ → (ℕ → ℕ) → ℕ
@@ -84,10 +85,6 @@ any-false zero i t e h = absurd (omega arith)
 any-false (suc n) i t e h =
     let s = neither (t n) (any n t) e in
     ⊎-elim (λ (q : i ≡ n). rw q (s .0)) (λ (q : i < n). any-false n i t (s .1) q) (eq-or-lt-of-le (le-of-suc-le-suc h))
-  where
-    neither : (a b : Bool) → (a || b) ≡ false → (a ≡ false) × (b ≡ false)
-    neither true b p = absurd (let z : _≡_ {A = ℕ} 0 1 = cc in omega arith)
-    neither false b p = (refl, p)
 
 pub any-all : (n : ℕ) (t : ℕ → Bool) → ((i : ℕ) → i < n → t i ≡ false) → any n t ≡ false
 unfolding any

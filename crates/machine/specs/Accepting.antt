@@ -1,28 +1,27 @@
 -- What a program must be to be accepted, as a judgment on its instructions, with laws for lists of them: the checker's tests from the other side.
 -- Assumes nothing.
-use Prim.Native.Nat.{ℕ, zero, suc, _+_, _*_, _/_, _%_, _<_}
+use Prim.Native.Nat.{ℕ, zero, suc, _+_, _<_}
 use mathlib.Core.Path.{_≡_, refl, sym, ap, _∙_}
 use mathlib.Core.Bool.{Bool, true, false, not, _||_}
 use mathlib.Core.List.{List, [], _∷_, _++_}
 use mathlib.Core.Logic.{_⊎_, inl, inr, ⊎-elim}
 use native.Mathlib.Omega.{arith}
-use borrow.Author.Tests.{lt-ltb, le-ltb, eq-eqb}
+use borrow.Author.Tests.{lt-ltb, eq-eqb}
 use lib.Dec.{eqb, ltb}
-use lib.ListN.{length, drop, length-append}
+use lib.ListN.{length, drop}
 use lib.Seq.{drop-at}
+use Rattle.laws.specs.Tests.{never}
 use Rattle.laws.specs.Sums.{any-all}
 use Rattle.laws.specs.Lay.{blocks}
 use Rattle.laws.specs.Outcome.{gives}
-use Rattle.files.specs.Fields.{fieldOf}
 use Rattle.programs.specs.Limits.{within}
 use Rattle.programs.specs.Records.{recordBytes}
-use Rattle.programs.specs.Instructions.{uses, lengthOf, ofKind, instructionBytes, decodeOf, sizedOf}
-use Rattle.programs.specs.Header.{header-length, header-kind, headerBytes, headerOf, numbersOf, codeBytes, programFile}
-use Rattle.programs.specs.Reading.{length-instruction, header-read}
-use Rattle.programs.specs.Inverse.{length-some}
+use Rattle.programs.specs.Instructions.{uses, lengthOf, instructionBytes, decodeOf}
+use Rattle.programs.specs.Header.{header-length, headerBytes, codeBytes, programFile}
+use Rattle.programs.specs.Reading.{length-instruction}
+use Rattle.programs.specs.Inverse.{decode-written, header-written}
 use Rattle.programs.specs.declared.description.Program.{Program}
 use Rattle.programs.specs.declared.description.Instruction.{Instruction}
-use Rattle.programs.specs.declared.description.Instruction.the-variants.{Ones, Zero, Input, Not, And, Or, Output}
 use Rattle.machine.specs.Checks.{every, also, inRange, instructionOf, codeOf, nothing, checkOf}
 
 -- ---- the judgment
@@ -116,55 +115,11 @@ pub sets-right : (o : ℕ) (is js : List Instruction) → Sets o js → Sets o (
 sets-right o [] js x = x
 sets-right o (i ∷ is) js x = inr (sets-right o is js x)
 
--- ---- what is written is read back
-field-back : (x : ℕ) → x % 256 + 256 * (x / 256) ≡ x
-field-back x = omega arith
-
-module _ (i : Instruction) (rest : List ℕ) where
-  abbrev ahead : List ℕ
-  ahead = instructionBytes i ++ rest
-
-  read-back : fieldOf ahead 0 ≡ lengthOf i → ofKind (fieldOf ahead 2) (fieldOf ahead 4) (fieldOf ahead 6) (fieldOf ahead 8) ≡ gives i →
-      decodeOf ahead ≡ gives i
-  unfolding decodeOf sizedOf
-  read-back l k =
-      let long : length ahead ≡ lengthOf i + length rest =
-      length-append (instructionBytes i) rest ∙ ap (λ (n : ℕ). n + length rest) (length-instruction i) in
-      rw (
-        le-ltb (length ahead) 4 (omega (arith, length-some i)),
-        l,
-        le-ltb (length ahead) (lengthOf i) (omega arith),
-        k,
-        eq-eqb (lengthOf i) (lengthOf i) refl,
-      )
-
-pub decode-written : (i : Instruction) (rest : List ℕ) → decodeOf (instructionBytes i ++ rest) ≡ gives i
-unfolding instructionBytes recordBytes fieldOf
-decode-written (Ones to) rest = read-back (Ones to) rest refl (rw (field-back to))
-decode-written (Zero to) rest = read-back (Zero to) rest refl (rw (field-back to))
-decode-written (Input to n) rest = read-back (Input to n) rest refl (rw (field-back to, field-back n))
-decode-written (Not to a) rest = read-back (Not to a) rest refl (rw (field-back to, field-back a))
-decode-written (And to a b) rest = read-back (And to a b) rest refl (rw (field-back to, field-back a, field-back b))
-decode-written (Or to a b) rest = read-back (Or to a b) rest refl (rw (field-back to, field-back a, field-back b))
-decode-written (Output o a) rest = read-back (Output o a) rest refl (rw (field-back o, field-back a))
-
-count-back : (x : ℕ) → x % 65536 % 256 + 256 * (x % 65536 / 256) + 65536 * (x / 65536 % 256 + 256 * (x / 65536 / 256)) ≡ x
-count-back x = omega arith
-
-numbers-written : (p : Program) (rest : List ℕ) → p ≡ numbersOf (headerBytes p ++ rest)
-unfolding headerBytes recordBytes numbersOf fieldOf
-numbers-written p rest = rw (field-back (p .registers), field-back (p .inputs), field-back (p .outputs), count-back (p .count))
-
-pub header-written : (p : Program) (rest : List ℕ) → within p ≡ true → headerOf (headerBytes p ++ rest) ≡ gives p
-unfolding headerBytes recordBytes fieldOf
-header-written p rest w =
-    sym (header-read (headerBytes p ++ rest) (omega arith) header-kind refl refl p (numbers-written p rest) w header-length refl refl)
-
+-- ---- the checker's tests
 header-long : (p : Program) → length (headerBytes p) ≡ header-length
 unfolding headerBytes recordBytes
 header-long p = refl
 
--- ---- the checker's tests
 every-true : (t : ℕ → Bool) (P : ℕ → Type 0) (xs : List ℕ) → ((x : ℕ) → P x → t x ≡ true) → Each P xs → every t xs ≡ true
 every-true t P [] f e = refl
 every-true t P (x ∷ xs) f e = rw (f x (e .0), every-true t P xs f (e .1))
@@ -183,7 +138,7 @@ fits-range p i f =
 
 or-left : (a b : Bool) → a ≡ true → (a || b) ≡ true
 or-left true b e = refl
-or-left false b e = absurd (let z : _≡_ {A = ℕ} 0 1 = cc in omega arith)
+or-left false b e = never e
 
 or-right : (a b : Bool) → b ≡ true → (a || b) ≡ true
 or-right true b e = refl

@@ -7,6 +7,7 @@ use native.Mathlib.Omega.{arith}
 use borrow.Author.Tests.{le-ltb, lt-ltb, ltb-false, not-false}
 use lib.Dec.{ltb}
 use lib.ListN.{length, take, drop, replicate, length-set, length-take, length-replicate}
+use Rattle.laws.specs.Tests.{never}
 use Rattle.laws.specs.Sums.{any}
 use Rattle.laws.specs.Lay.{lay, lay-nothing}
 use Rattle.laws.specs.Outcome.{Outcome, refused, gives, refuse, _>>_, _>>=_, passed, bound, gives-inj, mapped, laid, mapped-gives, mapped-refused}
@@ -122,8 +123,8 @@ room-is : (p : Program) (inputs registers outputs : List ℕ) → roomFor words 
 room-is p inputs registers outputs = either (ltb (length inputs) (p .inputs)) (ltb (length registers) (p .registers)) (ltb (length outputs) (p .outputs))
 
 neither : (a b c : Bool) → (a || b || c) ≡ false → (a ≡ false) × (b ≡ false) × (c ≡ false)
-neither true b c e = absurd (let z : _≡_ {A = ℕ} 0 1 = cc in omega arith)
-neither false true c e = absurd (let z : _≡_ {A = ℕ} 0 1 = cc in omega arith)
+neither true b c e = never (sym e)
+neither false true c e = never (sym e)
 neither false false c e = (refl, refl, e)
 
 pub room-means : (p : Program) (ni nr nq : ℕ) (b : Bool) → b ≡ (ltb ni (p .inputs) || ltb nr (p .registers) || ltb nq (p .outputs)) → b ≡ false → Reaches p nr ni nq

@@ -11,6 +11,7 @@ use borrow.Author.Tests.{lt-ltb, le-ltb, ltb-true, eq-eqb, ne-eqb}
 use lib.Dec.{ltb, eqb}
 use lib.ListN.{length, getD, set, drop, length-drop, length-set, replicate, length-replicate}
 use lib.Seq.{drop-drop, getD-set-same, getD-set-other}
+use Rattle.laws.specs.Tests.{both}
 use Rattle.laws.specs.Sums.{any}
 use Rattle.laws.specs.Outcome.{Outcome, refused, gives, _>>_, _>>=_, mapped}
 use Rattle.files.specs.Fields.{fieldOf}
@@ -18,7 +19,7 @@ use Rattle.files.specs.Refusal.{numberOf}
 use Rattle.programs.specs.Limits.{most-registers, most-inputs, most-outputs, within, unwritten, unset}
 use Rattle.programs.specs.Instructions.{uses, lengthOf, ofKind, sizedOf, decodeAt}
 use Rattle.programs.specs.Header.{header-length, headerOf}
-use Rattle.programs.specs.Reading.{both, within-means, decode-as}
+use Rattle.programs.specs.Reading.{within-means, decode-as}
 use Rattle.programs.specs.Inverse.{field-drop, length-some, header-reads}
 use Rattle.programs.specs.declared.description.Program.{Program}
 use Rattle.programs.specs.declared.description.Instruction.{Instruction}

@@ -1,27 +1,24 @@
 -- An accepted program file is the encoding of its header and instructions, and what acceptance means in plain words. Assumes nothing.
-use Prim.Native.Nat.{ℕ, zero, suc, _+_, _*_, _/_, _%_, _≤_, _<_}
+use Prim.Native.Nat.{ℕ, zero, suc, _+_, _≤_, _<_}
 use mathlib.Core.Path.{_≡_, refl, sym, ap, _∙_, subst}
-use mathlib.Core.Bool.{Bool, true, false, not, cond, _||_}
+use mathlib.Core.Bool.{Bool, true, false, not, _||_}
 use mathlib.Core.List.{List, [], _∷_, _++_}
 use mathlib.Core.Logic.{_⊎_, inl, inr, ⊎-elim, _↔_}
-use native.Mathlib.Numerals.{add-one}
 use native.Mathlib.Omega.{arith}
 use borrow.Author.Tests.{ltb-true, ltb-false, eqb-true, not-false, le-leb}
 use lib.Dec.{eqb, ltb}
-use lib.ListN.{length, getD, take, drop}
-use lib.Seq.{drop-cons, getD-drop}
+use lib.ListN.{length, getD, drop}
+use lib.Seq.{getD-drop}
+use Rattle.laws.specs.Tests.{never, both}
 use Rattle.laws.specs.Sums.{any, any-false}
-use Rattle.laws.specs.Outcome.{Outcome, gives, passed, bound, gives-inj}
-use Rattle.files.specs.Fields.{fieldOf}
+use Rattle.laws.specs.Outcome.{gives, passed, bound, gives-inj}
 use Rattle.programs.specs.Limits.{most-registers, most-inputs, most-outputs, most-instructions, within}
-use Rattle.programs.specs.Records.{recordBytes}
-use Rattle.programs.specs.Instructions.{uses, kindOf, lengthOf, operandsOf, ofKind, instructionBytes, decodeOf}
-use Rattle.programs.specs.Header.{header-length, header-kind, headerBytes, headerOf, numbersOf, codeBytes, programFile}
-use Rattle.programs.specs.Reading.{both, Within, within-means}
-use Rattle.programs.specs.Inverse.{decode-reads, named-kind}
+use Rattle.programs.specs.Instructions.{uses, lengthOf, instructionBytes, decodeOf}
+use Rattle.programs.specs.Header.{header-length, headerBytes, headerOf, codeBytes, programFile}
+use Rattle.programs.specs.Reading.{Within, within-means}
+use Rattle.programs.specs.Inverse.{header-reads, instruction-back, header-back}
 use Rattle.programs.specs.declared.description.Program.{Program}
 use Rattle.programs.specs.declared.description.Instruction.{Instruction}
-use Rattle.programs.specs.declared.description.Instruction.the-variants.{Ones, Zero, Input, Not, And, Or, Output}
 use Rattle.machine.specs.Checks.{Code, every, also, inRange, instructionOf, codeOf, nothing, checkOf}
 use Rattle.machine.specs.Accepting.{Each, OneOf, Fits, Ready, Sets, none, Sound, accepted}
 
@@ -55,129 +52,7 @@ pub record WellFormed (p : Program) (is : List Instruction) : Type 0 where
   -- each output is set by some instruction
   pub all-set : (o : ℕ) → o < p .outputs → SetBy is o
 
--- ---- bytes are written back as they are read
--- n fields from byte k on
-abbrev fieldsOf : ℕ → ℕ → List ℕ → List ℕ
-fieldsOf zero k bytes = []
-fieldsOf (suc n) k bytes = fieldOf bytes k ∷ fieldsOf n (k + 2) bytes
-
-low-back : (x y : ℕ) → x < 256 → (x + 256 * y) % 256 ≡ x
-low-back x y h = omega arith
-
-high-back : (x y : ℕ) → x < 256 → (x + 256 * y) / 256 ≡ y
-high-back x y h = omega arith
-
-field-small : (bytes : List ℕ) (k : ℕ) → getD bytes k 0 < 256 → getD bytes (k + 1) 0 < 256 → fieldOf bytes k < 65536
-unfolding fieldOf
-field-small bytes k a b = omega arith
-
-two-ahead : (bytes : List ℕ) (k : ℕ) → k + 2 ≤ length bytes → drop k bytes ≡ getD bytes k 0 ∷ getD bytes (k + 1) 0 ∷ drop (k + 2) bytes
-two-ahead bytes k h =
-    let next : k + 2 ≡ suc (k + 1) = omega arith in
-    drop-cons bytes k 0 (omega arith) ∙
-    ap (λ (l : List ℕ). getD bytes k 0 ∷ l) (rw (← add-one k, next) (drop-cons bytes (k + 1) 0 (omega arith)))
-
-module _ (bytes : List ℕ) (byte : (i : ℕ) → getD bytes i 0 < 256) where
-  record-back : (n k : ℕ) → k + 2 * n ≤ length bytes → drop k bytes ≡ recordBytes (fieldsOf n k bytes) ++ drop (k + 2 * n) bytes
-  unfolding recordBytes fieldOf
-  record-back zero k h =
-      let at : k ≡ k + 2 * 0 = omega arith in
-      ap (λ (j : ℕ). drop j bytes) at
-  record-back (suc n) k h =
-      let at : k + 2 * suc n ≡ (k + 2) + 2 * n = omega arith in
-      rw (low-back (getD bytes k 0) (getD bytes (k + 1) 0) (byte k), high-back (getD bytes k 0) (getD bytes (k + 1) 0) (byte k), at)
-      (two-ahead bytes k (omega arith) ∙ ap (λ (l : List ℕ). getD bytes k 0 ∷ getD bytes (k + 1) 0 ∷ l) (record-back n (k + 2) (omega arith)))
-
--- ---- the table of instructions read both ways
-either-test : {P : Type 0} (b : Bool) (i j : Instruction) (o : Outcome Instruction) → (j ≡ i → P) → (o ≡ gives i → P) →
-    cond b (gives j) o ≡ gives i → P
-either-test true i j o same other e = same (gives-inj e)
-either-test false i j o same other e = other e
-
-operands-named : (k a b d : ℕ) (i : Instruction) → ofKind k a b d ≡ gives i → operandsOf i ≡ take (length (operandsOf i)) (a ∷ b ∷ d ∷ [])
-operands-named k a b d i =
-    either-test (eqb k 1) i (Ones a) _ (λ q. rw (← q))
-    (either-test (eqb k 2) i (Zero a) _ (λ q. rw (← q))
-    (either-test (eqb k 3) i (Input a b) _ (λ q. rw (← q))
-    (either-test (eqb k 4) i (Not a b) _ (λ q. rw (← q))
-    (either-test (eqb k 5) i (And a b d) _ (λ q. rw (← q))
-    (either-test (eqb k 6) i (Or a b d) _ (λ q. rw (← q))
-    (either-test (eqb k 7) i (Output a b) _ (λ q. rw (← q))
-    (λ e. absurd (let z : _≡_ {A = ℕ} 0 1 = cc in omega arith))))))))
-
--- the fields of an instruction that is read
-fields-named : (bytes : List ℕ) (i : Instruction) → fieldOf bytes 0 ≡ lengthOf i → fieldOf bytes 2 ≡ kindOf i →
-    operandsOf i ≡ take (length (operandsOf i)) (fieldOf bytes 4 ∷ fieldOf bytes 6 ∷ fieldOf bytes 8 ∷ []) →
-    fieldsOf (2 + length (operandsOf i)) 0 bytes ≡ lengthOf i ∷ kindOf i ∷ operandsOf i
-fields-named bytes (Ones to) l k o = rw (l, k, o)
-fields-named bytes (Zero to) l k o = rw (l, k, o)
-fields-named bytes (Input to n) l k o = rw (l, k, o)
-fields-named bytes (Not to a) l k o = rw (l, k, o)
-fields-named bytes (And to a b) l k o = rw (l, k, o)
-fields-named bytes (Or to a b) l k o = rw (l, k, o)
-fields-named bytes (Output to a) l k o = rw (l, k, o)
-
-length-fields : (i : Instruction) → lengthOf i ≡ 2 * (2 + length (operandsOf i))
-length-fields (Ones to) = refl
-length-fields (Zero to) = refl
-length-fields (Input to n) = refl
-length-fields (Not to a) = refl
-length-fields (And to a b) = refl
-length-fields (Or to a b) = refl
-length-fields (Output o a) = refl
-
-pub instruction-back : (bytes : List ℕ) (i : Instruction) → ((k : ℕ) → getD bytes k 0 < 256) → decodeOf bytes ≡ gives i →
-    bytes ≡ instructionBytes i ++ drop (lengthOf i) bytes
-unfolding instructionBytes
-instruction-back bytes i byte e =
-    let r = decode-reads bytes i e in
-    let n : ℕ = 2 + length (operandsOf i) in
-    let fields : fieldsOf n 0 bytes ≡ lengthOf i ∷ kindOf i ∷ operandsOf i =
-    fields-named bytes i (r .long) (named-kind (fieldOf bytes 2) (fieldOf bytes 4) (fieldOf bytes 6) (fieldOf bytes 8) i (r .named))
-    (operands-named (fieldOf bytes 2) (fieldOf bytes 4) (fieldOf bytes 6) (fieldOf bytes 8) i (r .named)) in
-    let at : 0 + 2 * n ≡ lengthOf i = omega (arith, length-fields i) in
-    rw (fields, at) at (record-back bytes byte n 0 (omega (arith, r .room)))
-
 -- ---- what the checks before a result say
-pub record Headed (file : List ℕ) (p : Program) : Type 0 where
-  pub room : header-length ≤ length file
-  pub kind : fieldOf file 2 ≡ header-kind
-  pub long : fieldOf file 0 ≡ header-length
-  pub numbers : p ≡ numbersOf file
-  pub limits : within p ≡ true
-
-pub header-says : (file : List ℕ) (p : Program) → headerOf file ≡ gives p → Headed file p
-unfolding headerOf
-header-says file p e =
-    let c1 = passed 1 (ltb (length file) header-length) _ p e in
-    let c2 = passed 2 (not (eqb (fieldOf file 2) header-kind)) _ p (c1 .1) in
-    let c3 = passed 3 (not (within (numbersOf file))) _ p (c2 .1) in
-    let c4 = passed 4 (not (eqb (fieldOf file 0) header-length)) _ p (c3 .1) in
-    let same : numbersOf file ≡ p = gives-inj (c4 .1) in
-    record {
-      room = ltb-false (length file) header-length (c1 .0);
-      kind = eqb-true (fieldOf file 2) header-kind (not-false _ (c2 .0));
-      long = eqb-true (fieldOf file 0) header-length (not-false _ (c4 .0));
-      numbers = sym same;
-      limits = rw same at (not-false (within (numbersOf file)) (c3 .0));
-    }
-
-pub header-back : (file : List ℕ) (p : Program) → ((k : ℕ) → getD file k 0 < 256) → headerOf file ≡ gives p →
-    file ≡ headerBytes p ++ drop header-length file
-unfolding headerBytes numbersOf
-header-back file p byte e =
-    let h = header-says file p e in
-    rw (h .numbers, count-low, count-high, ← h .kind, ← h .long) (record-back file byte 7 0 (h .room))
-  where
-    small : fieldOf file 10 < 65536
-    small = field-small file 10 (byte 10) (byte 11)
-
-    count-low : (fieldOf file 10 + 65536 * fieldOf file 12) % 65536 ≡ fieldOf file 10
-    count-low = omega (arith, small)
-
-    count-high : (fieldOf file 10 + 65536 * fieldOf file 12) / 65536 ≡ fieldOf file 12
-    count-high = omega (arith, small)
-
 -- one instruction and those behind it
 pub record Coded (n : ℕ) (p : Program) (written set : ℕ → Bool) (bytes : List ℕ) (is : List Instruction) : Type 0 where
   pub first : Instruction
@@ -327,16 +202,13 @@ code-follows (suc n) p W written set bytes is w e =
       all-set = λ o l. set-here (c .first) (c .rest) set o (f .all-set o l);
     })
 
-never : {P : Type 0} → false ≡ true → P
-never e = absurd (let z : _≡_ {A = ℕ} 0 1 = cc in omega arith)
-
 pub accepted-sound : (file : List ℕ) (c : Code) → checkOf file ≡ gives c → Sound (c .program) (c .instructions)
 accepted-sound file c e =
     let s = check-says file c e in
     let f = code-follows (c .program .count) (c .program) none nothing nothing (drop header-length file) (c .instructions)
     (λ r t. never t) (s .1) in
     record {
-      limits = header-says file (c .program) (s .0) .limits;
+      limits = header-reads file (c .program) (s .0) .inside;
       counted = f .counted;
       in-range = f .in-range;
       written = f .ready;

@@ -12,7 +12,7 @@ use lib.Dec.{eqb}
 use lib.ListN.{length, getD, set, take, drop, replicate, length-map, List·getD-map}
 use lib.Seq.{ext-getD, getD-take, getD-set-same, getD-set-other, length-take-le, take-all}
 use Rattle.laws.specs.Words.{bitAt, bitAt-zero, bitAt-and, bitAt-or, bitAt-not}
-use Rattle.laws.specs.Outcome.{gives, mapped, mapped-gives}
+use Rattle.laws.specs.Outcome.{gives, mapped, mapped-gives, mapped-mapped}
 use Rattle.programs.specs.Instructions.{uses}
 use Rattle.programs.specs.declared.description.Program.{Program}
 use Rattle.programs.specs.declared.description.Instruction.{Instruction}
@@ -24,7 +24,7 @@ use Rattle.machine.specs.Accepting.{Each, OneOf, Fits, Ready, Sets, none
 use Rattle.machine.specs.Encoding.{accepted-sound}
 use Rattle.machine.specs.Resuming.{Room, Enough, Sized, sized-cleared, sized-lent, step-long, exec-long}
 use Rattle.machine.specs.Resuming.{cleared, lent, admitted, startRun, resumeRun, start-is, resume-is, start-whole, resume-whole}
-use Rattle.machine.specs.Resuming.{equal-lengths, both-enough, mapped-mapped}
+use Rattle.machine.specs.Resuming.{equal-lengths, both-enough}
 
 -- ---- maps that commute with the gates
 -- P holds of all that the gates make of what it holds of

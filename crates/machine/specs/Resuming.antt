@@ -12,7 +12,7 @@ use lib.Dec.{ltb}
 use lib.ListN.{length, take, drop, replicate, length-set, length-replicate}
 use lib.Seq.{take-add, take-all, take-at, drop-drop, drop-append-seam, length-take-le}
 use Rattle.laws.specs.Lay.{lay, length-lay}
-use Rattle.laws.specs.Outcome.{Outcome, refused, gives, refuse, _>>_, _>>=_, mapped, laid, passed, bound, gives-inj, mapped-gives}
+use Rattle.laws.specs.Outcome.{Outcome, refused, gives, refuse, _>>_, _>>=_, mapped, laid, passed, bound, gives-inj, mapped-gives, no-result, then-gives, bind-eq, bind-after, bind-gives, mapped-bind, mapped-then, mapped-mapped}
 use Rattle.programs.specs.Reading.{within-means}
 use Rattle.programs.specs.declared.description.Program.{Program}
 use Rattle.programs.specs.declared.description.Instruction.{Instruction}
@@ -105,41 +105,10 @@ pub record Obeys (position budget count : ℕ) (r : Run) : Type 0 where
   pub ended : (r .finished ≡ true) ↔ (r .position ≡ count)
 
 -- ---- outcomes
-module _ {A B : Type 0} where
-  bind-eq : (o : Outcome A) (k h : A → Outcome B) → ((a : A) → o ≡ gives a → k a ≡ h a) → (o >>= k) ≡ (o >>= h)
-  bind-eq (refused n) k h e = refl
-  bind-eq (gives a) k h e = e a refl
-
-  mapped-bind : {C : Type 0} (o : Outcome A) (k : A → Outcome B) (h : A → Outcome C) (f : C → B) → ((a : A) → k a ≡ mapped f (h a)) →
-      (o >>= k) ≡ mapped f (o >>= h)
-  mapped-bind (refused n) k h f e = refl
-  mapped-bind (gives a) k h f e = e a
-
-  mapped-then : (u : Outcome (Unit {0})) (k : Outcome B) (h : Outcome A) (f : A → B) → k ≡ mapped f h → (u >> k) ≡ mapped f (u >> h)
-  mapped-then (refused n) k h f e = refl
-  mapped-then (gives a) k h f e = e
-
-  pub mapped-mapped : {C : Type 0} (f : A → B) (g : B → C) (h : A → C) (o : Outcome A) → ((a : A) → g (f a) ≡ h a) →
-      mapped g (mapped f o) ≡ mapped h o
-  mapped-mapped f g h (refused n) e = refl
-  mapped-mapped f g h (gives a) e = ap gives (e a)
-
-  bind-bind : {C : Type 0} (o : Outcome A) (k : A → Outcome B) (h : B → Outcome C) → (o >>= (λ a. k a >>= h)) ≡ ((o >>= k) >>= h)
-  bind-bind (refused n) k h = refl
-  bind-bind (gives a) k h = refl
-
-bind-gives : {A : Type 0} (o : Outcome A) → (o >>= (λ a. gives a)) ≡ o
-bind-gives (refused n) = refl
-bind-gives (gives a) = refl
-
-gone-on : {B : Type 0} (u : Outcome (Unit {0})) (k : Outcome B) (b : B) → (u >> k) ≡ gives b → (u ≡ gives tt) × (k ≡ gives b)
-gone-on (refused n) k b e = absurd (let z : _≡_ {A = ℕ} 0 1 = cc in omega arith)
-gone-on (gives u) k b e = (refl, e)
-
 -- what holds of each admitted program, held of the outcome
 carry : {B C : Type 0} (f g : C → B) (k : B → Outcome B) (o : Outcome C) → ((c : C) → o ≡ gives c → k (f c) ≡ gives (g c)) → (e : B) →
     mapped f o ≡ gives e → k e ≡ mapped g o
-carry f g k (refused n) h e q = absurd (let z : _≡_ {A = ℕ} 0 1 = cc in omega arith)
+carry f g k (refused n) h e q = no-result n e q
 carry f g k (gives c) h e q = rw (← gives-inj q) (h c refl)
 
 carry-all : {A B C : Type 0} (f g : C → B) (l : B → A) (k : A → Outcome A) (o : Outcome C) →
@@ -152,7 +121,7 @@ pub caller-holds : {A : Type 0} (o : Outcome (Ended A)) (answer : Run) (register
     gives answer ≡ mapped (λ e. e .answer) o → registers′ ≡ lay (laid (λ e. e .state .registers) o) registers →
     outputs′ ≡ lay (laid (λ e. e .state .outputs) o) outputs →
     mapped (leaves registers outputs) o ≡ gives (record { answer = answer; registers = registers′; outputs = outputs′ })
-caller-holds (refused n) answer registers outputs registers′ outputs′ e r q = absurd (let z : _≡_ {A = ℕ} 0 1 = cc in omega arith)
+caller-holds (refused n) answer registers outputs registers′ outputs′ e r q = no-result n answer (sym e)
 caller-holds (gives x) answer registers outputs registers′ outputs′ e r q = rw (gives-inj e, r, q)
 
 -- ---- instructions one after another
@@ -296,7 +265,7 @@ module _ {A : Type 0} (G : Gates A) where
         let c1 = bound (checkOf file) _ c e in
         let n : Code = c1 .0 in
         let c2 = passed 12 (ltb (length (n .instructions)) position) _ c (c1 .2) in
-        let c3 = gone-on (roomFor G (n .program) inputs registers outputs) (gives n) c (c2 .1) in
+        let c3 = then-gives (roomFor G (n .program) inputs registers outputs) (gives n) c (c2 .1) in
         let same : n ≡ c = gives-inj (c3 .1) in
         let r1 = passed 13 (ltb (length inputs) (n .program .inputs)) _ tt (c3 .0) in
         let r2 = passed 13 (ltb (length registers) (n .program .registers)) _ tt (r1 .1) in
@@ -529,7 +498,7 @@ module _ {A : Type 0} (G : Gates A) (file : List ℕ) (inputs registers outputs 
       let same : together b 0 ≡ b = omega arith in
       rw same (bind-gives (started G file inputs registers outputs b))
   start-onward b (x ∷ xs) h =
-      bind-bind (started G file inputs registers outputs b) (λ l. again G file inputs l x) (λ m. onward G file inputs m xs) ∙
+      bind-after (started G file inputs registers outputs b) (λ l. again G file inputs l x) (λ m. onward G file inputs m xs) _ (λ l. refl) ∙
       rw (start-again b x, ← together-total b x (total xs)) (start-onward (together b x) xs (omega arith))
 
   pub resume-onward : (position b : ℕ) (bs : List ℕ) → b < 2 ^ 32 →
@@ -540,7 +509,7 @@ module _ {A : Type 0} (G : Gates A) (file : List ℕ) (inputs registers outputs 
       let same : together b 0 ≡ b = omega arith in
       rw same (bind-gives (resumed G file inputs registers outputs position b))
   resume-onward position b (x ∷ xs) h =
-      bind-bind (resumed G file inputs registers outputs position b) (λ l. again G file inputs l x) (λ m. onward G file inputs m xs) ∙
+      bind-after (resumed G file inputs registers outputs position b) (λ l. again G file inputs l x) (λ m. onward G file inputs m xs) _ (λ l. refl) ∙
       rw (resume-again position b x, ← together-total b x (total xs)) (resume-onward position (together b x) xs (omega arith))
 
   -- so with budgets for all instructions, in however many calls, an accepted program is carried out whole

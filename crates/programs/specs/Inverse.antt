@@ -1,19 +1,22 @@
 -- Writing and reading are inverse: an instruction and a header are read back as they are written, and are written back as they are read.
 -- Assumes nothing.
-use Prim.Native.Nat.{ℕ, _+_, _≤_}
+use Prim.Native.Nat.{ℕ, zero, suc, _+_, _*_, _/_, _%_, _≤_, _<_}
 use mathlib.Core.Path.{_≡_, refl, sym, ap, _∙_}
 use mathlib.Core.Bool.{Bool, true, false, not, cond}
-use mathlib.Core.List.{List}
+use mathlib.Core.List.{List, [], _∷_, _++_}
+use native.Mathlib.Numerals.{add-one}
 use native.Mathlib.Omega.{arith}
-use borrow.Author.Tests.{ltb-false, eqb-true, not-false}
+use borrow.Author.Tests.{le-ltb, eq-eqb, ltb-false, eqb-true, not-false}
 use lib.Dec.{eqb, ltb}
-use lib.ListN.{length, drop}
-use lib.Seq.{getD-drop}
-use Rattle.laws.specs.Outcome.{Outcome, refused, gives, passed, bound, gives-inj}
+use lib.ListN.{length, getD, take, drop, length-append}
+use lib.Seq.{getD-drop, drop-cons}
+use Rattle.laws.specs.Outcome.{Outcome, gives, passed, bound, gives-inj, no-result}
 use Rattle.files.specs.Fields.{fieldOf}
 use Rattle.programs.specs.Limits.{within}
-use Rattle.programs.specs.Instructions.{ofKind, sizedOf, kindOf, lengthOf, decodeOf}
-use Rattle.programs.specs.Header.{header-length, header-kind, headerOf, numbersOf}
+use Rattle.programs.specs.Records.{recordBytes}
+use Rattle.programs.specs.Reading.{length-instruction, header-read}
+use Rattle.programs.specs.Instructions.{ofKind, sizedOf, kindOf, lengthOf, operandsOf, instructionBytes, decodeOf}
+use Rattle.programs.specs.Header.{header-length, header-kind, headerBytes, headerOf, numbersOf}
 use Rattle.programs.specs.declared.description.Program.{Program}
 use Rattle.programs.specs.declared.description.Instruction.{Instruction}
 use Rattle.programs.specs.declared.description.Instruction.the-variants.{Ones, Zero, Input, Not, And, Or, Output}
@@ -60,9 +63,6 @@ either-test : {P : Type 0} (b : Bool) (i j : Instruction) (o : Outcome Instructi
 either-test true i j o yes-it no-not e = yes-it refl (gives-inj e)
 either-test false i j o yes-it no-not e = no-not e
 
-none-left : {P : Type 0} (n : ℕ) (i : Instruction) → refused n ≡ gives i → P
-none-left n i e = absurd (let z : _≡_ {A = ℕ} 0 1 = cc in omega arith)
-
 pub named-kind : (k a b d : ℕ) (i : Instruction) → ofKind k a b d ≡ gives i → k ≡ kindOf i
 named-kind k a b d i =
     either-test (eqb k 1) i (Ones a) _ (λ t q. eqb-true k 1 t ∙ ap kindOf q)
@@ -72,7 +72,7 @@ named-kind k a b d i =
     (either-test (eqb k 5) i (And a b d) _ (λ t q. eqb-true k 5 t ∙ ap kindOf q)
     (either-test (eqb k 6) i (Or a b d) _ (λ t q. eqb-true k 6 t ∙ ap kindOf q)
     (either-test (eqb k 7) i (Output a b) _ (λ t q. eqb-true k 7 t ∙ ap kindOf q)
-    (none-left 7 i)))))))
+    (no-result 7 i)))))))
 
 -- ---- a header
 -- what is read says of the bytes
@@ -98,3 +98,140 @@ header-reads file p e =
       inside = ap within (sym q) ∙ not-false _ (c3 .0);
       numbers = q;
     }
+
+-- ---- what is written is read back
+field-back : (x : ℕ) → x % 256 + 256 * (x / 256) ≡ x
+field-back x = omega arith
+
+module _ (i : Instruction) (rest : List ℕ) where
+  abbrev ahead : List ℕ
+  ahead = instructionBytes i ++ rest
+
+  read-back : fieldOf ahead 0 ≡ lengthOf i → ofKind (fieldOf ahead 2) (fieldOf ahead 4) (fieldOf ahead 6) (fieldOf ahead 8) ≡ gives i →
+      decodeOf ahead ≡ gives i
+  unfolding decodeOf sizedOf
+  read-back l k =
+      let long : length ahead ≡ lengthOf i + length rest =
+      length-append (instructionBytes i) rest ∙ ap (λ (n : ℕ). n + length rest) (length-instruction i) in
+      rw (
+        le-ltb (length ahead) 4 (omega (arith, length-some i)),
+        l,
+        le-ltb (length ahead) (lengthOf i) (omega arith),
+        k,
+        eq-eqb (lengthOf i) (lengthOf i) refl,
+      )
+
+pub decode-written : (i : Instruction) (rest : List ℕ) → decodeOf (instructionBytes i ++ rest) ≡ gives i
+unfolding instructionBytes recordBytes fieldOf
+decode-written (Ones to) rest = read-back (Ones to) rest refl (rw (field-back to))
+decode-written (Zero to) rest = read-back (Zero to) rest refl (rw (field-back to))
+decode-written (Input to n) rest = read-back (Input to n) rest refl (rw (field-back to, field-back n))
+decode-written (Not to a) rest = read-back (Not to a) rest refl (rw (field-back to, field-back a))
+decode-written (And to a b) rest = read-back (And to a b) rest refl (rw (field-back to, field-back a, field-back b))
+decode-written (Or to a b) rest = read-back (Or to a b) rest refl (rw (field-back to, field-back a, field-back b))
+decode-written (Output o a) rest = read-back (Output o a) rest refl (rw (field-back o, field-back a))
+
+count-back : (x : ℕ) → x % 65536 % 256 + 256 * (x % 65536 / 256) + 65536 * (x / 65536 % 256 + 256 * (x / 65536 / 256)) ≡ x
+count-back x = omega arith
+
+numbers-written : (p : Program) (rest : List ℕ) → p ≡ numbersOf (headerBytes p ++ rest)
+unfolding headerBytes recordBytes numbersOf fieldOf
+numbers-written p rest = rw (field-back (p .registers), field-back (p .inputs), field-back (p .outputs), count-back (p .count))
+
+pub header-written : (p : Program) (rest : List ℕ) → within p ≡ true → headerOf (headerBytes p ++ rest) ≡ gives p
+unfolding headerBytes recordBytes fieldOf
+header-written p rest w =
+    sym (header-read (headerBytes p ++ rest) (omega arith) header-kind refl refl p (numbers-written p rest) w header-length refl refl)
+
+-- ---- bytes are written back as they are read
+-- n fields from byte k on
+abbrev fieldsOf : ℕ → ℕ → List ℕ → List ℕ
+fieldsOf zero k bytes = []
+fieldsOf (suc n) k bytes = fieldOf bytes k ∷ fieldsOf n (k + 2) bytes
+
+low-back : (x y : ℕ) → x < 256 → (x + 256 * y) % 256 ≡ x
+low-back x y h = omega arith
+
+high-back : (x y : ℕ) → x < 256 → (x + 256 * y) / 256 ≡ y
+high-back x y h = omega arith
+
+field-small : (bytes : List ℕ) (k : ℕ) → getD bytes k 0 < 256 → getD bytes (k + 1) 0 < 256 → fieldOf bytes k < 65536
+unfolding fieldOf
+field-small bytes k a b = omega arith
+
+two-ahead : (bytes : List ℕ) (k : ℕ) → k + 2 ≤ length bytes → drop k bytes ≡ getD bytes k 0 ∷ getD bytes (k + 1) 0 ∷ drop (k + 2) bytes
+two-ahead bytes k h =
+    let next : k + 2 ≡ suc (k + 1) = omega arith in
+    drop-cons bytes k 0 (omega arith) ∙
+    ap (λ (l : List ℕ). getD bytes k 0 ∷ l) (rw (← add-one k, next) (drop-cons bytes (k + 1) 0 (omega arith)))
+
+module _ (bytes : List ℕ) (byte : (i : ℕ) → getD bytes i 0 < 256) where
+  record-back : (n k : ℕ) → k + 2 * n ≤ length bytes → drop k bytes ≡ recordBytes (fieldsOf n k bytes) ++ drop (k + 2 * n) bytes
+  unfolding recordBytes fieldOf
+  record-back zero k h =
+      let at : k ≡ k + 2 * 0 = omega arith in
+      ap (λ (j : ℕ). drop j bytes) at
+  record-back (suc n) k h =
+      let at : k + 2 * suc n ≡ (k + 2) + 2 * n = omega arith in
+      rw (low-back (getD bytes k 0) (getD bytes (k + 1) 0) (byte k), high-back (getD bytes k 0) (getD bytes (k + 1) 0) (byte k), at)
+      (two-ahead bytes k (omega arith) ∙ ap (λ (l : List ℕ). getD bytes k 0 ∷ getD bytes (k + 1) 0 ∷ l) (record-back n (k + 2) (omega arith)))
+
+operands-named : (k a b d : ℕ) (i : Instruction) → ofKind k a b d ≡ gives i → operandsOf i ≡ take (length (operandsOf i)) (a ∷ b ∷ d ∷ [])
+operands-named k a b d i =
+    either-test (eqb k 1) i (Ones a) _ (λ t q. rw (← q))
+    (either-test (eqb k 2) i (Zero a) _ (λ t q. rw (← q))
+    (either-test (eqb k 3) i (Input a b) _ (λ t q. rw (← q))
+    (either-test (eqb k 4) i (Not a b) _ (λ t q. rw (← q))
+    (either-test (eqb k 5) i (And a b d) _ (λ t q. rw (← q))
+    (either-test (eqb k 6) i (Or a b d) _ (λ t q. rw (← q))
+    (either-test (eqb k 7) i (Output a b) _ (λ t q. rw (← q))
+    (no-result 7 i)))))))
+
+-- the fields of an instruction that is read
+fields-named : (bytes : List ℕ) (i : Instruction) → fieldOf bytes 0 ≡ lengthOf i → fieldOf bytes 2 ≡ kindOf i →
+    operandsOf i ≡ take (length (operandsOf i)) (fieldOf bytes 4 ∷ fieldOf bytes 6 ∷ fieldOf bytes 8 ∷ []) →
+    fieldsOf (2 + length (operandsOf i)) 0 bytes ≡ lengthOf i ∷ kindOf i ∷ operandsOf i
+fields-named bytes (Ones to) l k o = rw (l, k, o)
+fields-named bytes (Zero to) l k o = rw (l, k, o)
+fields-named bytes (Input to n) l k o = rw (l, k, o)
+fields-named bytes (Not to a) l k o = rw (l, k, o)
+fields-named bytes (And to a b) l k o = rw (l, k, o)
+fields-named bytes (Or to a b) l k o = rw (l, k, o)
+fields-named bytes (Output to a) l k o = rw (l, k, o)
+
+length-fields : (i : Instruction) → lengthOf i ≡ 2 * (2 + length (operandsOf i))
+length-fields (Ones to) = refl
+length-fields (Zero to) = refl
+length-fields (Input to n) = refl
+length-fields (Not to a) = refl
+length-fields (And to a b) = refl
+length-fields (Or to a b) = refl
+length-fields (Output o a) = refl
+
+pub instruction-back : (bytes : List ℕ) (i : Instruction) → ((k : ℕ) → getD bytes k 0 < 256) → decodeOf bytes ≡ gives i →
+    bytes ≡ instructionBytes i ++ drop (lengthOf i) bytes
+unfolding instructionBytes
+instruction-back bytes i byte e =
+    let r = decode-reads bytes i e in
+    let n : ℕ = 2 + length (operandsOf i) in
+    let fields : fieldsOf n 0 bytes ≡ lengthOf i ∷ kindOf i ∷ operandsOf i =
+    fields-named bytes i (r .long) (named-kind (fieldOf bytes 2) (fieldOf bytes 4) (fieldOf bytes 6) (fieldOf bytes 8) i (r .named))
+    (operands-named (fieldOf bytes 2) (fieldOf bytes 4) (fieldOf bytes 6) (fieldOf bytes 8) i (r .named)) in
+    let at : 0 + 2 * n ≡ lengthOf i = omega (arith, length-fields i) in
+    rw (fields, at) at (record-back bytes byte n 0 (omega (arith, r .room)))
+
+pub header-back : (file : List ℕ) (p : Program) → ((k : ℕ) → getD file k 0 < 256) → headerOf file ≡ gives p →
+    file ≡ headerBytes p ++ drop header-length file
+unfolding headerBytes numbersOf
+header-back file p byte e =
+    let h = header-reads file p e in
+    rw (← h .numbers, count-low, count-high, ← h .kind, ← h .long) (record-back file byte 7 0 (h .room))
+  where
+    small : fieldOf file 10 < 65536
+    small = field-small file 10 (byte 10) (byte 11)
+
+    count-low : (fieldOf file 10 + 65536 * fieldOf file 12) % 65536 ≡ fieldOf file 10
+    count-low = omega (arith, small)
+
+    count-high : (fieldOf file 10 + 65536 * fieldOf file 12) / 65536 ≡ fieldOf file 12
+    count-high = omega (arith, small)

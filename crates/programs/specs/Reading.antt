@@ -1,13 +1,14 @@
 -- The ways through the checks of an instruction and of a header. Assumes nothing.
 use Prim.Native.Nat.{ℕ, _+_, _*_, _≤_, _<_}
 use mathlib.Core.Path.{_≡_, refl, sym, ap, _∙_}
-use mathlib.Core.Bool.{Bool, true, false, _&&_}
+use mathlib.Core.Bool.{true, false, _&&_}
 use mathlib.Core.List.{List}
 use native.Mathlib.Omega.{arith}
 use borrow.Author.Tests.{lt-ltb, le-ltb, le-leb, lt-leb, eq-eqb, ne-eqb, leb-true}
 use lib.Dec.{leb}
 use lib.ListN.{length, take, drop, length-drop}
 use lib.Seq.{take-all}
+use Rattle.laws.specs.Tests.{both}
 use Rattle.laws.specs.Lay.{layAt}
 use Rattle.laws.specs.Outcome.{Outcome, refused, gives, _>>_, _>>=_}
 use Rattle.files.specs.Fields.{fieldOf}
@@ -133,10 +134,6 @@ module _ (p : Program) (buf : List ℕ) where
   header-room now w h e = (rw (w, le-leb header-length (length buf) h), rw (w, le-leb header-length (length buf) h) e)
 
 -- what the limits say
-pub both : (a b : Bool) → (a && b) ≡ true → (a ≡ true) × (b ≡ true)
-both true b e = (refl, e)
-both false b e = absurd (let z : _≡_ {A = ℕ} 0 1 = cc in omega arith)
-
 in-limits : (most x : ℕ) → among most x ≡ true → (1 ≤ x) × (x ≤ most)
 in-limits most x e =
     let s = both (leb 1 x) (leb x most) e in

@@ -1,14 +1,12 @@
 -- The strings of n bits, each exactly once, and how many of them pass a test. Assumes nothing.
 use Prim.Native.Nat.{ℕ, zero, suc, _+_, _*_, _^_, _≤_, _<_}
 use mathlib.Core.Path.{_≡_, refl, ap, ap₂, _∙_}
-use mathlib.Core.Bool.{Bool, true, false, _&&_}
+use mathlib.Core.Bool.{Bool, true, false}
 use mathlib.Core.List.{List, [], _∷_, _++_, map}
-use mathlib.Core.Logic.{_↔_}
 use native.Mathlib.Nat.{pow-succ'}
 use native.Mathlib.Omega.{arith}
-use borrow.Author.Tests.{eqb-true, eq-eqb}
-use lib.Dec.{eqb}
 use lib.ListN.{length, getD, length-append, length-map}
+use Rattle.laws.specs.Tests.{same}
 
 -- s is a string of n bits
 pub record Bits (n : ℕ) (s : List ℕ) : Type 0 where
@@ -32,13 +30,6 @@ one-if false = 0
 -- how many of a list pass the test
 unfoldable pub count : {A : Type 0} → (A → Bool) → List A → ℕ
 count test xs = over xs (λ x. one-if (test x))
-
--- whether two strings are one
-unfoldable pub same : List ℕ → List ℕ → Bool
-same [] [] = true
-same [] (y ∷ t) = false
-same (x ∷ s) [] = false
-same (x ∷ s) (y ∷ t) = eqb x y && same s t
 
 -- P of each element of a list
 abbrev pub Each : {A : Type 0} → (A → Type 0) → List A → Type 0
@@ -115,27 +106,6 @@ strings-bits (suc n) =
     each-append (Bits (suc n)) (map (λ s. 0 ∷ s) (strings n)) (map (λ s. 1 ∷ s) (strings n))
     (each-map (Bits n) (Bits (suc n)) (λ s. 0 ∷ s) (strings n) (λ s b. bits-more 0 n s (omega arith) b) (strings-bits n))
     (each-map (Bits n) (Bits (suc n)) (λ s. 1 ∷ s) (strings n) (λ s b. bits-more 1 n s (omega arith) b) (strings-bits n))
-
-both : (a b : Bool) → (a && b) ≡ true → (a ≡ true) × (b ≡ true)
-both true b e = (refl, e)
-both false b e = absurd (let z : _≡_ {A = ℕ} 0 1 = cc in omega arith)
-
-same-so : (s t : List ℕ) → same s t ≡ true → s ≡ t
-unfolding same
-same-so [] [] e = refl
-same-so [] (y ∷ t) e = absurd (let z : _≡_ {A = ℕ} 0 1 = cc in omega arith)
-same-so (x ∷ s) [] e = absurd (let z : _≡_ {A = ℕ} 0 1 = cc in omega arith)
-same-so (x ∷ s) (y ∷ t) e =
-    let p = both (eqb x y) (same s t) e in
-    rw (eqb-true x y (p .0), same-so s t (p .1))
-
-same-self : (s : List ℕ) → same s s ≡ true
-unfolding same
-same-self [] = refl
-same-self (x ∷ s) = rw (eq-eqb x x refl) (same-self s)
-
-pub same-is : (s t : List ℕ) → (same s t ≡ true) ↔ (s ≡ t)
-same-is s t = (same-so s t, λ e. rw e (same-self t))
 
 -- each string of n bits is there, and there once
 pub strings-once : (n : ℕ) (s : List ℕ) → Bits n s → count (same s) (strings n) ≡ 1

@@ -10,7 +10,7 @@ use lib.Dec.{eqb}
 use lib.ListN.{length}
 use Rattle.laws.specs.Sums.{sumTo}
 use Rattle.laws.specs.Lay.{upto, length-upto, upto-eq}
-use Rattle.laws.specs.Outcome.{Outcome, refused, gives, _>>_, gives-inj}
+use Rattle.laws.specs.Outcome.{Outcome, refused, gives, _>>_, gives-inj, no-result}
 use Rattle.files.specs.Fields.{width, bitOf}
 use Rattle.files.specs.Matrix.{Matrix, Accepted, bit, p, total}
 use Rattle.files.specs.Files.{matrixOf}
@@ -125,7 +125,7 @@ module _ (file : List ℕ) (M : Matrix) (e : matrixOf file ≡ gives M) where
   file-drawn string r w = last (stringsOf 1 (M .columns) string) (rw e at w)
     where
       last : (o : Outcome (Unit {0})) → (o >> gives (drawn M (upto (M .columns) (bitOf string 0)))) ≡ gives r → drawn M (upto (M .columns) (bitOf string 0)) ≡ r
-      last (refused n) q = absurd (let z : _≡_ {A = ℕ} 0 1 = cc in omega arith)
+      last (refused n) q = no-result n r q
       last (gives u) q = gives-inj q
 
   -- 1, 3. whatever the string, no other number is ever given: a row that is hit is below m, and its column below n

@@ -9,8 +9,8 @@ use lib.Dec.{T}
 use lib.IntN.{ℤ, pos, negsuc, natAbs}
 use lib.Signed.{ltZ, nonNeg}
 use mir.Facts.{fits-natAbs, fits-ofZ, sfits-toZ, toZ-pos}
-use mir.Syntax.{w16, w64}
-use mir.Val.{Fits, SFits, ofZ, toZ}
+use mir.Syntax.{w16}
+use mir.Val.{SFits, ofZ, toZ}
 use Rattle.vectors.proofs.answers.pattern.Statement.{statement}
 use Rattle.vectors.proofs.answers.pattern.Tie as tie
 

@@ -1,0 +1,44 @@
+-- Tests: what passing all of some, or none of them, says; and lists of numbers compared. Assumes nothing.
+use Prim.Native.Nat.{ℕ}
+use mathlib.Core.Path.{_≡_, refl, sym}
+use mathlib.Core.Bool.{Bool, true, false, _&&_, _||_}
+use mathlib.Core.List.{List, [], _∷_}
+use mathlib.Core.Logic.{_↔_}
+use native.Mathlib.Omega.{arith}
+use borrow.Author.Tests.{eq-eqb, eqb-true}
+use lib.Dec.{eqb}
+
+pub never : {A : Type 0} → false ≡ true → A
+never e = absurd (let z : _≡_ {A = ℕ} 0 1 = cc in omega arith)
+
+pub both : (a b : Bool) → (a && b) ≡ true → (a ≡ true) × (b ≡ true)
+both true b e = (refl, e)
+both false b e = never e
+
+pub neither : (a b : Bool) → (a || b) ≡ false → (a ≡ false) × (b ≡ false)
+neither true b e = never (sym e)
+neither false b e = (refl, e)
+
+-- ---- whether two lists are one
+unfoldable pub same : List ℕ → List ℕ → Bool
+same [] [] = true
+same [] (y ∷ t) = false
+same (x ∷ s) [] = false
+same (x ∷ s) (y ∷ t) = eqb x y && same s t
+
+same-so : (s t : List ℕ) → same s t ≡ true → s ≡ t
+unfolding same
+same-so [] [] e = refl
+same-so [] (y ∷ t) e = never e
+same-so (x ∷ s) [] e = never e
+same-so (x ∷ s) (y ∷ t) e =
+    let p = both (eqb x y) (same s t) e in
+    rw (eqb-true x y (p .0), same-so s t (p .1))
+
+same-self : (s : List ℕ) → same s s ≡ true
+unfolding same
+same-self [] = refl
+same-self (x ∷ s) = rw (eq-eqb x x refl) (same-self s)
+
+pub same-is : (s t : List ℕ) → (same s t ≡ true) ↔ (s ≡ t)
+same-is s t = (same-so s t, λ e. rw e (same-self t))
