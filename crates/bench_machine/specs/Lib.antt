@@ -1,2 +1,0 @@
--- The numbers that the benchmark reads.
-pub mod Numbers

@@ -1,0 +1,151 @@
+/*
+ * Each function of corkhollow.h called from C, with its types written out again: so the header's declarations are compared, compiled and
+ * used. And the header's numbers, for a comparison with the reference's and the Rust binding's.
+ */
+#include "corkhollow.h"
+
+_Static_assert(sizeof(size_t) == 8, "Rust's usize");
+_Static_assert(sizeof(bool) == 1, "Rust's bool");
+
+/* A call that fits may hide a declaration of another type, so the types are compared as well. */
+#define SAME_TYPE(name) \
+    _Static_assert(__builtin_types_compatible_p(__typeof__(corkhollow_##name), __typeof__(through_##name)), #name)
+
+/* ---- matrix files ---- */
+
+uint32_t through_read(const uint8_t *file, size_t file_length, uint8_t *entries, size_t entries_length, size_t *rows, size_t *columns)
+{
+    return corkhollow_read(file, file_length, entries, entries_length, rows, columns);
+}
+SAME_TYPE(read);
+
+uint32_t through_write(size_t rows, size_t columns, const uint8_t *entries, size_t entries_length, uint8_t *file, size_t file_length,
+                       size_t *length)
+{
+    return corkhollow_write(rows, columns, entries, entries_length, file, file_length, length);
+}
+SAME_TYPE(write);
+
+uint32_t through_build(const uint32_t *weights, size_t weights_length, size_t columns, bool is_signed, uint8_t *file, size_t file_length,
+                       size_t *length)
+{
+    return corkhollow_build(weights, weights_length, columns, is_signed, file, file_length, length);
+}
+SAME_TYPE(build);
+
+uint32_t through_walk(const uint8_t *file, size_t file_length, const uint8_t *string, size_t string_length, size_t *row)
+{
+    return corkhollow_walk(file, file_length, string, string_length, row);
+}
+SAME_TYPE(walk);
+
+uint32_t through_compile(const uint8_t *file, size_t file_length, uint8_t *program, size_t program_length, size_t *length)
+{
+    return corkhollow_compile(file, file_length, program, program_length, length);
+}
+SAME_TYPE(compile);
+
+/* ---- program files ---- */
+
+uint32_t through_check(const uint8_t *program, size_t program_length, size_t *registers, size_t *inputs, size_t *outputs, uint32_t *count)
+{
+    return corkhollow_check(program, program_length, registers, inputs, outputs, count);
+}
+SAME_TYPE(check);
+
+uint32_t through_start(const uint8_t *program, size_t program_length, const uint64_t *inputs, size_t inputs_length, uint64_t *registers,
+                       size_t registers_length, uint64_t *outputs, size_t outputs_length, uint32_t budget, uint32_t *position,
+                       uint32_t *count, bool *finished)
+{
+    return corkhollow_start(program, program_length, inputs, inputs_length, registers, registers_length, outputs, outputs_length, budget,
+                            position, count, finished);
+}
+SAME_TYPE(start);
+
+uint32_t through_resume(const uint8_t *program, size_t program_length, const uint64_t *inputs, size_t inputs_length, uint64_t *registers,
+                        size_t registers_length, uint64_t *outputs, size_t outputs_length, uint32_t position, uint32_t budget,
+                        uint32_t *position_out, uint32_t *count, bool *finished)
+{
+    return corkhollow_resume(program, program_length, inputs, inputs_length, registers, registers_length, outputs, outputs_length,
+                             position, budget, position_out, count, finished);
+}
+SAME_TYPE(resume);
+
+/* ---- lanes ---- */
+
+uint32_t through_slice(size_t columns, const uint8_t *strings, size_t strings_length, uint64_t *words, size_t words_length)
+{
+    return corkhollow_slice(columns, strings, strings_length, words, words_length);
+}
+SAME_TYPE(slice);
+
+uint32_t through_samples(const uint64_t *outputs, size_t outputs_length, uint8_t *samples, size_t samples_length)
+{
+    return corkhollow_samples(outputs, outputs_length, samples, samples_length);
+}
+SAME_TYPE(samples);
+
+uint32_t through_signed_samples(const uint64_t *outputs, size_t outputs_length, uint64_t sign, int16_t *samples, size_t samples_length)
+{
+    return corkhollow_signed_samples(outputs, outputs_length, sign, samples, samples_length);
+}
+SAME_TYPE(signed_samples);
+
+/* ---- all in one call ---- */
+
+uint32_t through_draw(const uint8_t *program, size_t program_length, const uint8_t *strings, size_t strings_length, uint8_t *samples,
+                      size_t samples_length)
+{
+    return corkhollow_draw(program, program_length, strings, strings_length, samples, samples_length);
+}
+SAME_TYPE(draw);
+
+uint32_t through_draw_signed(const uint8_t *program, size_t program_length, const uint8_t *strings, size_t strings_length, uint64_t sign,
+                             int16_t *samples, size_t samples_length)
+{
+    return corkhollow_draw_signed(program, program_length, strings, strings_length, sign, samples, samples_length);
+}
+SAME_TYPE(draw_signed);
+
+/* ---- numbers, in the order of src/numbers.rs ---- */
+
+const uint64_t through_numbers[] = {
+    CORKHOLLOW_OK,
+    CORKHOLLOW_SHORT,
+    CORKHOLLOW_KIND,
+    CORKHOLLOW_SIZE,
+    CORKHOLLOW_LENGTH,
+    CORKHOLLOW_BIT,
+    CORKHOLLOW_SUM,
+    CORKHOLLOW_INSTRUCTION,
+    CORKHOLLOW_OPERAND,
+    CORKHOLLOW_UNWRITTEN,
+    CORKHOLLOW_UNSET,
+    CORKHOLLOW_WEIGHTLESS,
+    CORKHOLLOW_POSITION,
+    CORKHOLLOW_BUFFER,
+    CORKHOLLOW_LANES,
+    CORKHOLLOW_ROWS,
+    CORKHOLLOW_COLUMNS,
+    CORKHOLLOW_REGISTERS,
+    CORKHOLLOW_INPUTS,
+    CORKHOLLOW_OUTPUTS,
+    CORKHOLLOW_INSTRUCTIONS,
+    CORKHOLLOW_MISS,
+    CORKHOLLOW_SIGNED_MISS,
+    CORKHOLLOW_MOST_ENTRIES,
+    CORKHOLLOW_MOST_MATRIX_BYTES,
+    CORKHOLLOW_MOST_PROGRAM_BYTES,
+    CORKHOLLOW_MOST_STRING_BYTES,
+};
+const size_t through_numbers_length = sizeof through_numbers / sizeof through_numbers[0];
+
+size_t through_width(size_t columns)
+{
+    return CORKHOLLOW_WIDTH(columns);
+}
+
+size_t through_matrix_length(size_t rows, size_t columns)
+{
+    return CORKHOLLOW_MATRIX_LENGTH(rows, columns);
+}

@@ -1,0 +1,180 @@
+//! The operations on lanes: slice, samples, signed samples, and the draws, which take a program too.
+
+use crate::faults::field_or_0;
+use crate::inputs::{fit, length, outside, set_spare_bit, strings, Stock, SIXTEEN_BITS};
+use crate::memory::Memory;
+use crate::programs::some_program;
+use crate::trial::Trial;
+use reference::lanes::LANES;
+use reference::lent;
+use reference::matrix::MOST_COLUMNS;
+use reference::program::{MOST_INPUTS, MOST_OUTPUTS};
+use reference::random::Random;
+
+/// 64 strings of so many bits: sound, with a spare bit, too short.
+fn some_strings(random: &mut Random, columns: usize) -> Vec<u8> {
+    let mut strings = strings(random, columns, LANES);
+    if random.once_in(6) {
+        set_spare_bit(random, &mut strings, columns);
+    }
+    fit(random, &mut strings, 6);
+    strings
+}
+
+pub fn slice(trial: &mut Trial, random: &mut Random, _: &Stock) {
+    let (small, any) = (random.between(1, 17), random.between(1, MOST_COLUMNS));
+    let mut columns = random.pick(&[1, 2, 7, 8, 9, 127, 128, small, small, small, any, any]);
+    let strings = some_strings(random, columns);
+    let words = length(random, columns, 5);
+    if random.once_in(8) {
+        columns = outside(random, MOST_COLUMNS);
+    }
+    let mut memory = Memory::new(random);
+    memory.note("columns", columns as u64);
+    let strings = memory.lend("strings", &strings);
+    let words = memory.room("words", words);
+    trial.compare(
+        &memory,
+        // SAFETY, here and below: what is lent lies apart in the block, which lives as long as the call.
+        |view| unsafe { lent::slice(columns, view.slice(strings), view.slice_mut(words)) },
+        |table, view| unsafe {
+            let strings_pointer = view.pointer(strings);
+            let words_pointer = view.pointer(words);
+            (table.slice)(
+                columns,
+                strings_pointer,
+                strings.length,
+                words_pointer,
+                words.length,
+            )
+        },
+    );
+}
+
+/// Output words: mostly 1 to 8, of any content, or with lanes that all hit or all miss.
+fn some_outputs(random: &mut Random) -> Vec<u64> {
+    let within = random.between(1, MOST_OUTPUTS);
+    let number = match random.below(200) {
+        0 => SIXTEEN_BITS + within,
+        1..=10 => 0,
+        11..=20 => MOST_OUTPUTS + 1,
+        21..=30 => random.between(MOST_OUTPUTS + 1, 300),
+        _ => within,
+    };
+    let mut outputs = random.words(number);
+    if let Some(hits) = outputs.first_mut() {
+        *hits = random.pick(&[*hits, *hits, *hits, 0, u64::MAX]);
+    }
+    outputs
+}
+
+/// A sign word.
+fn some_sign(random: &mut Random) -> u64 {
+    let any = random.word();
+    random.pick(&[any, any, any, 0, u64::MAX])
+}
+
+pub fn samples(trial: &mut Trial, random: &mut Random, _: &Stock) {
+    let mut memory = Memory::new(random);
+    let outputs = memory.lend("outputs", &some_outputs(random));
+    let samples = memory.room("samples", length(random, LANES, 4));
+    trial.compare(
+        &memory,
+        |view| unsafe { lent::samples(view.slice(outputs), view.slice_mut(samples)) },
+        |table, view| unsafe {
+            let outputs_pointer = view.pointer(outputs);
+            let samples_pointer = view.pointer(samples);
+            (table.samples)(
+                outputs_pointer,
+                outputs.length,
+                samples_pointer,
+                samples.length,
+            )
+        },
+    );
+}
+
+pub fn signed_samples(trial: &mut Trial, random: &mut Random, _: &Stock) {
+    let sign = some_sign(random);
+    let mut memory = Memory::new(random);
+    memory.note("sign", sign);
+    let outputs = memory.lend("outputs", &some_outputs(random));
+    let samples = memory.room("samples", length(random, LANES, 4));
+    trial.compare(
+        &memory,
+        |view| unsafe { lent::signed_samples(view.slice(outputs), sign, view.slice_mut(samples)) },
+        |table, view| unsafe {
+            (table.signed_samples)(
+                view.pointer(outputs),
+                outputs.length,
+                sign,
+                view.pointer(samples),
+                samples.length,
+            )
+        },
+    );
+}
+
+/// A program and strings of as many bits as it has inputs.
+fn some_draw(random: &mut Random, stock: &Stock) -> (Vec<u8>, Vec<u8>) {
+    let program = some_program(random, stock);
+    let inputs = field_or_0(&program, 6).clamp(1, MOST_INPUTS);
+    let strings = some_strings(random, inputs);
+    (program, strings)
+}
+
+pub fn draw(trial: &mut Trial, random: &mut Random, stock: &Stock) {
+    let (program, strings) = some_draw(random, stock);
+    let mut memory = Memory::new(random);
+    let program = memory.lend("program", &program);
+    let strings = memory.lend("strings", &strings);
+    let samples = memory.room("samples", length(random, LANES, 6));
+    trial.compare(
+        &memory,
+        |view| unsafe {
+            lent::draw(
+                view.slice(program),
+                view.slice(strings),
+                view.slice_mut(samples),
+            )
+        },
+        |table, view| unsafe {
+            (table.draw)(
+                view.pointer(program),
+                program.length,
+                view.pointer(strings),
+                strings.length,
+                view.pointer(samples),
+                samples.length,
+            )
+        },
+    );
+}
+
+pub fn draw_signed(trial: &mut Trial, random: &mut Random, stock: &Stock) {
+    let (program, strings) = some_draw(random, stock);
+    let sign = some_sign(random);
+    let mut memory = Memory::new(random);
+    memory.note("sign", sign);
+    let program = memory.lend("program", &program);
+    let strings = memory.lend("strings", &strings);
+    let samples = memory.room("samples", length(random, LANES, 6));
+    trial.compare(
+        &memory,
+        |view| unsafe {
+            let (program, strings) = (view.slice(program), view.slice(strings));
+            lent::draw_signed(program, strings, sign, view.slice_mut(samples))
+        },
+        |table, view| unsafe {
+            (table.draw_signed)(
+                view.pointer(program),
+                program.length,
+                view.pointer(strings),
+                strings.length,
+                sign,
+                view.pointer(samples),
+                samples.length,
+            )
+        },
+    );
+}

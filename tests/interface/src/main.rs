@@ -1,0 +1,140 @@
+//! Every operation of the engine through its C interface, against the reference.
+//!
+//! Takes a seed, if another than the fixed one is wanted. Exits 1 on the first difference.
+
+#[path = "../../../include/corkhollow.rs"]
+mod corkhollow;
+mod faults;
+mod inputs;
+mod lanes;
+mod matrices;
+mod memory;
+mod numbers;
+mod programs;
+mod table;
+mod trial;
+mod wrappers;
+
+use inputs::Stock;
+use reference::random::Random;
+use trial::{fail, Trial, ANSWERS};
+
+const SEED: u64 = 20_260_101;
+
+/// Fewer successes, or fewer cases of a refusal that an operation has, would try too little.
+const LEAST_SUCCESSES: usize = 1_000;
+const LEAST_REFUSALS: usize = 20;
+
+/// An operation, how one case of it is made and tried, and the refusals that it has.
+struct Operation {
+    name: &'static str,
+    cases: u64,
+    one_case: fn(&mut Trial, &mut Random, &Stock),
+    refusals: &'static [usize],
+}
+
+const fn operation(
+    name: &'static str,
+    one_case: fn(&mut Trial, &mut Random, &Stock),
+    refusals: &'static [usize],
+) -> Operation {
+    Operation {
+        name,
+        cases: 100_000,
+        one_case,
+        refusals,
+    }
+}
+
+const OPERATIONS: [Operation; 14] = [
+    operation("read", matrices::read, &[1, 2, 3, 4, 5, 6, 13]),
+    operation("write", matrices::write, &[3, 5, 6, 13]),
+    operation("build", matrices::build, &[3, 11, 13]),
+    operation("walk", matrices::walk, &[1, 2, 3, 4, 5, 6, 13]),
+    operation("compile", matrices::compile, &[1, 2, 3, 4, 5, 6, 13]),
+    operation("check", programs::check, &[1, 2, 3, 4, 7, 8, 9, 10]),
+    operation("start", programs::start, &[1, 2, 3, 4, 7, 8, 9, 10, 13]),
+    operation(
+        "resume",
+        programs::resume,
+        &[1, 2, 3, 4, 7, 8, 9, 10, 12, 13],
+    ),
+    Operation {
+        cases: 20_000,
+        ..operation("start, resume ..", programs::stops, &[])
+    },
+    operation("slice", lanes::slice, &[3, 5, 13]),
+    operation("samples", lanes::samples, &[3, 13]),
+    operation("signed_samples", lanes::signed_samples, &[3, 13]),
+    operation("draw", lanes::draw, &[1, 2, 3, 4, 5, 7, 8, 9, 10, 13]),
+    operation(
+        "draw_signed",
+        lanes::draw_signed,
+        &[1, 2, 3, 4, 5, 7, 8, 9, 10, 13],
+    ),
+];
+
+fn main() {
+    let seed = std::env::args().nth(1).map_or(SEED, |text| {
+        let number = text.parse();
+        number.unwrap_or_else(|_| fail("usage: interface [SEED]"))
+    });
+    numbers::compare();
+    wrappers::compare();
+    let stock = Stock::new(&mut Random::new(seed));
+    let numbers: Vec<String> = (1..ANSWERS).map(|refusal| refusal.to_string()).collect();
+    print_row("operation", "cases", "done", &numbers);
+    let mut calls = 0;
+    for operation in &OPERATIONS {
+        let trial = tried(operation, seed, &stock);
+        report(operation, &trial.answers);
+        calls += trial.calls;
+    }
+    println!("interface: {calls} calls, no difference");
+}
+
+/// Tries all cases of one operation.
+fn tried(operation: &Operation, seed: u64, stock: &Stock) -> Trial {
+    let mut trial = Trial::new(operation.name, seed);
+    for case in 0..operation.cases {
+        let mut random = trial.begin(case);
+        (operation.one_case)(&mut trial, &mut random, stock);
+    }
+    trial
+}
+
+/// Prints how many cases were tried, and how many of them were done and refused with each number.
+fn report(operation: &Operation, answers: &[usize; ANSWERS]) {
+    let text = |&number: &usize| match number {
+        0 => "-".to_string(),
+        _ => number.to_string(),
+    };
+    let refused: Vec<String> = answers[1..].iter().map(text).collect();
+    let cases: usize = answers.iter().sum();
+    print_row(
+        operation.name,
+        &cases.to_string(),
+        &text(&answers[0]),
+        &refused,
+    );
+    require_enough(operation, answers);
+}
+
+fn print_row(name: &str, cases: &str, done: &str, refused: &[String]) {
+    let refused: String = refused.iter().map(|text| format!(" {text:>5}")).collect();
+    println!("{name:16} {cases:>6} {done:>6} {refused}");
+}
+
+/// Every answer that an operation has was met often enough, and no other at all.
+fn require_enough(operation: &Operation, answers: &[usize; ANSWERS]) {
+    if answers[0] < LEAST_SUCCESSES {
+        fail(&format!("{}: too few successes are tried", operation.name));
+    }
+    for (refusal, &number) in answers.iter().enumerate().skip(1) {
+        let applies = operation.refusals.contains(&refusal);
+        if applies && number < LEAST_REFUSALS || !applies && number > 0 {
+            let name = operation.name;
+            fail(&format!("{name}: refusal {refusal} is met {number} times"));
+        }
+    }
+}

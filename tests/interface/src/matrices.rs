@@ -1,0 +1,238 @@
+//! The operations on matrix files: read, write, build, walk, compile.
+
+use crate::faults::{of_matrix, some_faults};
+use crate::inputs::{fit, length, matrix, outside, set_spare_bit, Stock, SIXTEEN_BITS};
+use crate::memory::Memory;
+use crate::trial::Trial;
+use reference::compiler::translate;
+use reference::lent;
+use reference::matrix::{file_length, Matrix, MOST_COLUMNS, MOST_ROWS};
+use reference::random::{self, Random};
+use reference::record::pack;
+
+/// A matrix file, sound or damaged, with the matrix that it was made of.
+fn some_file(random: &mut Random, stock: &Stock) -> (Vec<u8>, Matrix) {
+    let matrix = matrix(random, stock);
+    let mut file = matrix.encode();
+    some_faults(random, &mut file, of_matrix);
+    (file, matrix)
+}
+
+pub fn read(trial: &mut Trial, random: &mut Random, stock: &Stock) {
+    let (file, matrix) = some_file(random, stock);
+    let mut memory = Memory::new(random);
+    let file = memory.lend("file", &file);
+    let entries = memory.room("entries", length(random, matrix.entries.len(), 4));
+    let rows = memory.number("rows");
+    let columns = memory.number("columns");
+    trial.compare(
+        &memory,
+        // SAFETY, here and below: what is lent lies apart in the block, which lives as long as the call.
+        |view| unsafe {
+            lent::read(
+                view.slice(file),
+                view.slice_mut(entries),
+                view.number(rows),
+                view.number(columns),
+            )
+        },
+        |table, view| unsafe {
+            (table.read)(
+                view.pointer(file),
+                file.length,
+                view.pointer(entries),
+                entries.length,
+                view.pointer(rows),
+                view.pointer(columns),
+            )
+        },
+    );
+}
+
+/// What is written: sizes and entries.
+struct Written {
+    rows: usize,
+    columns: usize,
+    entries: Vec<u8>,
+}
+
+/// A matrix to be written: sound, or with sizes outside, other sizes, entries that are no bits, or too many ones.
+fn some_matrix(random: &mut Random, stock: &Stock) -> Written {
+    let matrix = matrix(random, stock);
+    let mut written = Written {
+        rows: matrix.rows,
+        columns: matrix.columns,
+        entries: matrix.entries,
+    };
+    fit(random, &mut written.entries, 8);
+    for _ in 0..random.pick(&[0, 0, 0, 1, 1, 2, 2, 3]) {
+        matrix_fault(random, &mut written);
+    }
+    written
+}
+
+/// One fault of a matrix to be written.
+fn matrix_fault(random: &mut Random, written: &mut Written) {
+    let entries = &mut written.entries;
+    match random.below(7) {
+        0 => written.rows = outside(random, MOST_ROWS),
+        1 => written.columns = outside(random, MOST_COLUMNS),
+        2 => entries.truncate(random.below(entries.len() + 1)),
+        3 | 4 if !entries.is_empty() => {
+            let at = random.below(entries.len());
+            entries[at] = random.pick(&[2, 3, 128, 254, 255]);
+        }
+        5 => {
+            let ones = random.between(0, entries.len().min(40));
+            let step = random.between(1, 20);
+            entries
+                .iter_mut()
+                .step_by(step)
+                .take(ones)
+                .for_each(|entry| *entry |= 1);
+        }
+        _ => std::mem::swap(&mut written.rows, &mut written.columns),
+    }
+}
+
+pub fn write(trial: &mut Trial, random: &mut Random, stock: &Stock) {
+    let Written {
+        rows,
+        columns,
+        entries,
+    } = some_matrix(random, stock);
+    let needed = file_length(rows.min(MOST_ROWS), columns.min(MOST_COLUMNS));
+    let mut memory = Memory::new(random);
+    memory.note("rows", rows as u64);
+    memory.note("columns", columns as u64);
+    let entries = memory.lend("entries", &entries);
+    let file = memory.room("file", length(random, needed, 5));
+    let written = memory.number("length");
+    trial.compare(
+        &memory,
+        |view| unsafe {
+            let (file, written) = (view.slice_mut(file), view.number(written));
+            lent::write(rows, columns, view.slice(entries), file, written)
+        },
+        |table, view| unsafe {
+            (table.write)(
+                rows,
+                columns,
+                view.pointer(entries),
+                entries.length,
+                view.pointer(file),
+                file.length,
+                view.pointer(written),
+            )
+        },
+    );
+}
+
+/// A number from 1 to 128: mostly a small one.
+fn some_size(random: &mut Random) -> usize {
+    let (small, any) = (random.between(1, 9), random.between(1, 128));
+    random.pick(&[small, small, small, small, any, 1, 127, 128])
+}
+
+/// Weights: sound, all 0, none or too many.
+fn some_weights(random: &mut Random) -> Vec<u32> {
+    let number = some_size(random);
+    let more = random.pick(&[200, 256 + number, SIXTEEN_BITS + number]);
+    let refused = random.pick(&[0, 0, 0, MOST_ROWS + 1, MOST_ROWS + 1, MOST_ROWS + 1, more]);
+    match random.below(12) {
+        0 => vec![0; number],
+        1 => vec![0; refused],
+        2 => random::weights(random, refused),
+        _ => random::weights(random, number),
+    }
+}
+
+pub fn build(trial: &mut Trial, random: &mut Random, _: &Stock) {
+    let weights = some_weights(random);
+    let mut columns = some_size(random);
+    let needed = file_length(weights.len().min(MOST_ROWS), columns);
+    if random.once_in(8) {
+        columns = outside(random, MOST_COLUMNS);
+    }
+    let is_signed = random.bit() == 1;
+    let mut memory = Memory::new(random);
+    memory.note("columns", columns as u64);
+    memory.note("is_signed", u64::from(is_signed));
+    let weights = memory.lend("weights", &weights);
+    let file = memory.room("file", length(random, needed, 5));
+    let written = memory.number("length");
+    trial.compare(
+        &memory,
+        |view| unsafe {
+            let (file, written) = (view.slice_mut(file), view.number(written));
+            lent::build(view.slice(weights), columns, is_signed, file, written)
+        },
+        |table, view| unsafe {
+            (table.build)(
+                view.pointer(weights),
+                weights.length,
+                columns,
+                is_signed,
+                view.pointer(file),
+                file.length,
+                view.pointer(written),
+            )
+        },
+    );
+}
+
+pub fn walk(trial: &mut Trial, random: &mut Random, stock: &Stock) {
+    let (file, matrix) = some_file(random, stock);
+    let mut string = pack(&random::string(random, &matrix));
+    if random.once_in(8) {
+        set_spare_bit(random, &mut string, matrix.columns);
+    }
+    fit(random, &mut string, 6);
+    let mut memory = Memory::new(random);
+    let file = memory.lend("file", &file);
+    let string = memory.lend("string", &string);
+    let row = memory.number("row");
+    trial.compare(
+        &memory,
+        |view| unsafe { lent::walk(view.slice(file), view.slice(string), view.number(row)) },
+        |table, view| unsafe {
+            (table.walk)(
+                view.pointer(file),
+                file.length,
+                view.pointer(string),
+                string.length,
+                view.pointer(row),
+            )
+        },
+    );
+}
+
+pub fn compile(trial: &mut Trial, random: &mut Random, stock: &Stock) {
+    let (file, matrix) = some_file(random, stock);
+    // A sum above 2^n has no program, but then the length does not count.
+    let needed = if matrix.is_accepted() {
+        translate(&matrix).length()
+    } else {
+        100
+    };
+    let mut memory = Memory::new(random);
+    let file = memory.lend("file", &file);
+    let program = memory.room("program", length(random, needed, 5));
+    let written = memory.number("length");
+    trial.compare(
+        &memory,
+        |view| unsafe {
+            let (program, written) = (view.slice_mut(program), view.number(written));
+            lent::compile(view.slice(file), program, written)
+        },
+        |table, view| unsafe {
+            (table.compile)(
+                view.pointer(file),
+                file.length,
+                view.pointer(program),
+                program.length,
+                view.pointer(written),
+            )
+        },
+    );
+}

@@ -1,0 +1,114 @@
+//! The numbers of the header, the reference and the Rust binding are the same.
+
+use crate::corkhollow;
+use crate::trial::fail;
+use reference::refusal::{
+    BIT, BUFFER, INSTRUCTION, KIND, LENGTH, OPERAND, POSITION, SHORT, SIZE, TOTAL, UNSET,
+    UNWRITTEN, WEIGHTLESS,
+};
+use reference::{lanes, lent, matrix, program, record};
+
+extern "C" {
+    static through_numbers: [u64; HEADER_NUMBERS];
+    static through_numbers_length: usize;
+    fn through_width(columns: usize) -> usize;
+    fn through_matrix_length(rows: usize, columns: usize) -> usize;
+}
+
+/// The refusals and 0, seven limits, two misses, four lengths.
+const HEADER_NUMBERS: usize = 14 + 7 + 2 + 4;
+
+/// The refusals and 0, by the reference.
+const REFUSALS: [u32; 14] = [
+    lent::DONE,
+    SHORT,
+    KIND,
+    SIZE,
+    LENGTH,
+    BIT,
+    TOTAL,
+    INSTRUCTION,
+    OPERAND,
+    UNWRITTEN,
+    UNSET,
+    WEIGHTLESS,
+    POSITION,
+    BUFFER,
+];
+
+/// The most bytes of an instruction: length, kind, three operands.
+const INSTRUCTION_BYTES: usize = 10;
+const ENTRIES: usize = matrix::MOST_ROWS * matrix::MOST_COLUMNS;
+const PROGRAM_BYTES: usize =
+    program::PROGRAM_HEADER + program::MOST_INSTRUCTIONS * INSTRUCTION_BYTES;
+
+/// What follows the refusals in the header: by the reference and by the binding.
+fn others() -> [(usize, usize); HEADER_NUMBERS - 14] {
+    let matrix_bytes = matrix::file_length(matrix::MOST_ROWS, matrix::MOST_COLUMNS);
+    let string_bytes = lanes::LANES * record::packed_length(matrix::MOST_COLUMNS);
+    let (miss, signed_miss) = (lanes::MISS as usize, lanes::SIGNED_MISS as usize);
+    [
+        (lanes::LANES, corkhollow::LANES),
+        (matrix::MOST_ROWS, corkhollow::ROWS),
+        (matrix::MOST_COLUMNS, corkhollow::COLUMNS),
+        (program::MOST_REGISTERS, corkhollow::REGISTERS),
+        (program::MOST_INPUTS, corkhollow::INPUTS),
+        (program::MOST_OUTPUTS, corkhollow::OUTPUTS),
+        (program::MOST_INSTRUCTIONS, corkhollow::INSTRUCTIONS),
+        (miss, corkhollow::MISS as usize),
+        (signed_miss, corkhollow::SIGNED_MISS as usize),
+        (ENTRIES, corkhollow::MOST_ENTRIES),
+        (matrix_bytes, corkhollow::MOST_MATRIX_BYTES),
+        (PROGRAM_BYTES, corkhollow::MOST_PROGRAM_BYTES),
+        (string_bytes, corkhollow::MOST_STRING_BYTES),
+    ]
+}
+
+/// Ends the tests where a number differs.
+pub fn compare() {
+    // SAFETY: calls.c defines both, and the length is compared before the numbers are read.
+    let length = unsafe { through_numbers_length };
+    same("the header's numbers", HEADER_NUMBERS, length);
+    let header = unsafe { through_numbers };
+    for (i, refusal) in REFUSALS.into_iter().enumerate() {
+        same("a refusal", i, refusal as usize);
+        same("a refusal of the header", i, header[i] as usize);
+    }
+    for (i, (by_reference, by_binding)) in others().into_iter().enumerate() {
+        let place = format!("number {} of the header", REFUSALS.len() + i);
+        same(&place, by_reference, header[REFUSALS.len() + i] as usize);
+        same(
+            &format!("{place}, in the binding"),
+            by_reference,
+            by_binding,
+        );
+    }
+    lengths();
+}
+
+/// The lengths of strings and matrix files, for all sizes.
+fn lengths() {
+    for columns in 1..=matrix::MOST_COLUMNS {
+        let width = record::packed_length(columns);
+        // SAFETY: these take any numbers.
+        same("a width of the header", width, unsafe {
+            through_width(columns)
+        });
+        same("a width of the binding", width, corkhollow::width(columns));
+        for rows in 1..=matrix::MOST_ROWS {
+            let length = matrix::file_length(rows, columns);
+            let by_header = unsafe { through_matrix_length(rows, columns) };
+            let by_binding = corkhollow::matrix_length(rows, columns);
+            same("a matrix length of the header", length, by_header);
+            same("a matrix length of the binding", length, by_binding);
+        }
+    }
+}
+
+fn same(what: &str, wanted: usize, found: usize) {
+    if wanted != found {
+        fail(&format!(
+            "difference: {what} is {found}, the reference's {wanted}"
+        ));
+    }
+}

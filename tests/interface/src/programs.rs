@@ -1,0 +1,268 @@
+//! The operations on program files: check, start, resume, and starts that are resumed until they finish.
+
+use crate::faults::{field_or_0, of_program, some_faults};
+use crate::inputs::{length, program, Stock};
+use crate::memory::{Lent, Memory};
+use crate::trial::Trial;
+use reference::lent;
+use reference::program::{self as programs, MOST_INPUTS, MOST_OUTPUTS, MOST_REGISTERS};
+use reference::random::Random;
+
+/// A program file, sound or damaged.
+pub fn some_program(random: &mut Random, stock: &Stock) -> Vec<u8> {
+    let mut file = program(random, stock);
+    some_faults(random, &mut file, of_program);
+    file
+}
+
+pub fn check(trial: &mut Trial, random: &mut Random, stock: &Stock) {
+    let mut memory = Memory::new(random);
+    let program = memory.lend("program", &some_program(random, stock));
+    let registers = memory.number("registers");
+    let inputs = memory.number("inputs");
+    let outputs = memory.number("outputs");
+    let count = memory.number("count");
+    trial.compare(
+        &memory,
+        // SAFETY, here and below: what is lent lies apart in the block, which lives as long as the call.
+        |view| unsafe {
+            let (inputs, outputs) = (view.number(inputs), view.number(outputs));
+            let (registers, count) = (view.number(registers), view.number(count));
+            lent::check(view.slice(program), registers, inputs, outputs, count)
+        },
+        |table, view| unsafe {
+            (table.check)(
+                view.pointer(program),
+                program.length,
+                view.pointer(registers),
+                view.pointer(inputs),
+                view.pointer(outputs),
+                view.pointer(count),
+            )
+        },
+    );
+}
+
+/// What a run is lent.
+#[derive(Clone, Copy)]
+struct Run {
+    program: Lent<u8>,
+    inputs: Lent<u64>,
+    registers: Lent<u64>,
+    outputs: Lent<u64>,
+    position: Lent<u32>,
+    count: Lent<u32>,
+    finished: Lent<bool>,
+}
+
+/// The words that a run is lent.
+#[derive(PartialEq)]
+struct Words {
+    inputs: Vec<u64>,
+    registers: Vec<u64>,
+    outputs: Vec<u64>,
+}
+
+impl Words {
+    /// Words of any content, as many as the file's header asks for, or more, or too few.
+    fn some(random: &mut Random, file: &[u8], short_once_in: usize) -> Self {
+        let mut words = |at: usize, most: usize| {
+            let needed = field_or_0(file, at).min(most + 1);
+            let number = length(random, needed, short_once_in);
+            random.words(number)
+        };
+        Words {
+            registers: words(4, MOST_REGISTERS),
+            inputs: words(6, MOST_INPUTS),
+            outputs: words(8, MOST_OUTPUTS),
+        }
+    }
+}
+
+impl Run {
+    fn lend(memory: &mut Memory, file: &[u8], words: &Words) -> Self {
+        Run {
+            program: memory.lend("program", file),
+            inputs: memory.lend("inputs", &words.inputs),
+            registers: memory.lend("registers", &words.registers),
+            outputs: memory.lend("outputs", &words.outputs),
+            position: memory.number("position"),
+            count: memory.number("count"),
+            finished: memory.yes_or_no("finished"),
+        }
+    }
+
+    fn start(self, trial: &mut Trial, memory: &mut Memory, budget: u32) -> u32 {
+        memory.note("budget", u64::from(budget));
+        trial.compare(
+            memory,
+            |view| unsafe {
+                lent::start(
+                    view.slice(self.program),
+                    view.slice(self.inputs),
+                    view.slice_mut(self.registers),
+                    view.slice_mut(self.outputs),
+                    budget,
+                    view.number(self.position),
+                    view.number(self.count),
+                    view.number(self.finished),
+                )
+            },
+            |table, view| unsafe {
+                (table.start)(
+                    view.pointer(self.program),
+                    self.program.length,
+                    view.pointer(self.inputs),
+                    self.inputs.length,
+                    view.pointer(self.registers),
+                    self.registers.length,
+                    view.pointer(self.outputs),
+                    self.outputs.length,
+                    budget,
+                    view.pointer(self.position),
+                    view.pointer(self.count),
+                    view.pointer(self.finished),
+                )
+            },
+        )
+    }
+
+    fn resume(self, trial: &mut Trial, memory: &mut Memory, position: u32, budget: u32) -> u32 {
+        memory.note("position", u64::from(position));
+        memory.note("budget", u64::from(budget));
+        trial.compare(
+            memory,
+            |view| unsafe {
+                lent::resume(
+                    view.slice(self.program),
+                    view.slice(self.inputs),
+                    view.slice_mut(self.registers),
+                    view.slice_mut(self.outputs),
+                    position,
+                    budget,
+                    view.number(self.position),
+                    view.number(self.count),
+                    view.number(self.finished),
+                )
+            },
+            |table, view| unsafe {
+                (table.resume)(
+                    view.pointer(self.program),
+                    self.program.length,
+                    view.pointer(self.inputs),
+                    self.inputs.length,
+                    view.pointer(self.registers),
+                    self.registers.length,
+                    view.pointer(self.outputs),
+                    self.outputs.length,
+                    position,
+                    budget,
+                    view.pointer(self.position),
+                    view.pointer(self.count),
+                    view.pointer(self.finished),
+                )
+            },
+        )
+    }
+}
+
+/// The count that a file's header tells.
+fn count_of(file: &[u8]) -> u32 {
+    (field_or_0(file, 10) | field_or_0(file, 12) << 16) as u32
+}
+
+/// A budget, around a program's count or any.
+fn some_budget(random: &mut Random, count: u32) -> u32 {
+    let part = random.below(count as usize + 1) as u32;
+    let (less, more) = (count.saturating_sub(1), count.saturating_add(1));
+    random.pick(&[0, 1, less, count, more, 65_536, u32::MAX, part, part, part])
+}
+
+/// A position, mostly one within a program's count.
+fn some_position(random: &mut Random, count: u32) -> u32 {
+    let part = random.below(count as usize + 1) as u32;
+    let (more, high) = (count.saturating_add(1), part.saturating_add(65_536));
+    let above = random.pick(&[more, high, u32::MAX]);
+    random.pick(&[0, count, part, part, part, part, part, above])
+}
+
+pub fn start(trial: &mut Trial, random: &mut Random, stock: &Stock) {
+    let file = some_program(random, stock);
+    let words = Words::some(random, &file, 10);
+    let budget = some_budget(random, count_of(&file));
+    let mut memory = Memory::new(random);
+    Run::lend(&mut memory, &file, &words).start(trial, &mut memory, budget);
+}
+
+pub fn resume(trial: &mut Trial, random: &mut Random, stock: &Stock) {
+    let file = some_program(random, stock);
+    let words = Words::some(random, &file, 10);
+    let position = some_position(random, count_of(&file));
+    let budget = some_budget(random, count_of(&file));
+    let mut memory = Memory::new(random);
+    Run::lend(&mut memory, &file, &words).resume(trial, &mut memory, position, budget);
+}
+
+/// What a run left: its words, and its numbers.
+struct Left {
+    words: Words,
+    position: u32,
+    count: u32,
+    finished: bool,
+}
+
+/// Takes what the last call left, so that the next one can be lent it.
+fn take(trial: &mut Trial, run: Run) -> Left {
+    let view = trial.left();
+    // SAFETY: the block has what the last call left, and nothing else uses it.
+    unsafe {
+        Left {
+            words: Words {
+                inputs: view.slice(run.inputs).to_vec(),
+                registers: view.slice(run.registers).to_vec(),
+                outputs: view.slice(run.outputs).to_vec(),
+            },
+            position: *view.number(run.position),
+            count: *view.number(run.count),
+            finished: *view.number(run.finished),
+        }
+    }
+}
+
+/// A start that is resumed, with what each call left, until it has finished: it ends as the unbroken run does.
+pub fn stops(trial: &mut Trial, random: &mut Random, stock: &Stock) {
+    let file = loop {
+        let file = program(random, stock);
+        if programs::check(&file).is_ok() {
+            break file;
+        }
+    };
+    let count = count_of(&file);
+    let words = Words::some(random, &file, usize::MAX);
+    let mut memory = Memory::new(random);
+    let run = Run::lend(&mut memory, &file, &words);
+    run.start(trial, &mut memory, count);
+    let unbroken = take(trial, run);
+    run.start(trial, &mut memory, some_budget(random, count));
+    let mut left = take(trial, run);
+    let mut counted = left.count;
+    for step in 0.. {
+        if left.finished {
+            break;
+        }
+        let part = some_budget(random, count / 4);
+        let budget = if step < 6 { part } else { u32::MAX };
+        memory = Memory::new(random);
+        let run = Run::lend(&mut memory, &file, &left.words);
+        run.resume(trial, &mut memory, left.position, budget);
+        left = take(trial, run);
+        counted += left.count;
+    }
+    if left.words != unbroken.words || left.position != count || counted != count {
+        trial.differ(
+            &memory,
+            "both",
+            "the resumed run does not end as the unbroken one",
+        );
+    }
+}

@@ -1,0 +1,272 @@
+//! The safe functions of the Rust binding, each on a sound input and on a refused one. What they wrap is tried elsewhere: here it shows
+//! that they hand everything on in its place.
+
+use crate::corkhollow::{self as binding, Header, Refusal, Run};
+use crate::trial::fail;
+use reference::compiler::translate;
+use reference::lent::{self, DONE};
+use reference::matrix::Matrix;
+use std::fmt::Debug;
+
+/// Compares what a safe function answers and leaves with what the reference returns, answers and leaves.
+fn same<T: PartialEq + Debug, M: PartialEq + Debug>(
+    name: &str,
+    (answer, left): (Result<T, Refusal>, M),
+    (returned, result, wanted): (u32, T, M),
+) -> bool {
+    let expected = match returned {
+        DONE => Ok(result),
+        number => Err(Refusal(number)),
+    };
+    if answer != expected || left != wanted {
+        fail(&format!(
+            "difference: {name} of the binding: {answer:?} {left:?}, the reference {expected:?} {wanted:?}"
+        ));
+    }
+    returned == DONE
+}
+
+/// One input was sound and the other refused.
+fn both(name: &str, one_input: impl Fn(bool) -> bool) {
+    if !one_input(true) || one_input(false) {
+        fail(&format!(
+            "{name} of the binding: not the inputs that are wanted"
+        ));
+    }
+}
+
+/// Tries all of them, and the words of each refusal.
+pub fn compare() {
+    let sound = Matrix::from_texts(&["10", "01", "01"]);
+    let file = sound.encode();
+    let program = translate(&sound).encode();
+    matrices(&sound, &file);
+    let or_less = |sound: bool, bytes: &[u8]| bytes[..bytes.len() - usize::from(!sound)].to_vec();
+    both("walk", |sound| walk(&or_less(sound, &file)));
+    both("compile", |sound| compile(&or_less(sound, &file)));
+    both("check", |sound| check(&or_less(sound, &program)));
+    both("start", |sound| start(&or_less(sound, &program)));
+    both("resume", |sound| {
+        resume(&program, if sound { 9 } else { 99 })
+    });
+    both("slice", |sound| slice(if sound { 2 } else { 129 }));
+    both("samples", |sound| samples(if sound { 3 } else { 9 }));
+    both("signed_samples", |sound| {
+        signed_samples(if sound { 3 } else { 9 })
+    });
+    both("draw", |sound| draw(&or_less(sound, &program)));
+    both("draw_signed", |sound| {
+        draw_signed(&or_less(sound, &program))
+    });
+    words();
+}
+
+fn matrices(sound: &Matrix, file: &[u8]) {
+    both("read", |sound| read(file, if sound { 9 } else { 5 }));
+    both("write", |is_sound| {
+        write(if is_sound { 3 } else { 0 }, &sound.entries)
+    });
+    both("build", |sound| {
+        build(if sound { &[1, 5, 3] } else { &[0, 0, 0] })
+    });
+}
+
+fn read(file: &[u8], lent: usize) -> bool {
+    let (mut left, mut wanted) = (vec![7; lent], vec![7; lent]);
+    let (mut rows, mut columns) = (0, 0);
+    let answer = binding::read(file, &mut left);
+    let returned = lent::read(file, &mut wanted, &mut rows, &mut columns);
+    same("read", (answer, left), (returned, (rows, columns), wanted))
+}
+
+fn write(rows: usize, entries: &[u8]) -> bool {
+    let (mut left, mut wanted) = ([7; 20], [7; 20]);
+    let mut length = 0;
+    let answer = binding::write(rows, 2, entries, &mut left);
+    let returned = lent::write(rows, 2, entries, &mut wanted, &mut length);
+    same("write", (answer, left), (returned, length, wanted))
+}
+
+fn build(weights: &[u32]) -> bool {
+    let (mut left, mut wanted) = ([7; 20], [7; 20]);
+    let mut length = 0;
+    let answer = binding::build(weights, 11, true, &mut left);
+    let returned = lent::build(weights, 11, true, &mut wanted, &mut length);
+    same("build", (answer, left), (returned, length, wanted))
+}
+
+/// A hit, and a miss of the matrix's first row alone.
+fn walk(file: &[u8]) -> bool {
+    let mut row = 0;
+    let returned = lent::walk(file, &[0x80], &mut row);
+    let hit = same(
+        "walk",
+        (binding::walk(file, &[0x80]), ()),
+        (returned, Some(row), ()),
+    );
+    let missed = Matrix::from_texts(&["1"]).encode();
+    let returned = lent::walk(&missed, &[0x80], &mut row);
+    same(
+        "walk",
+        (binding::walk(&missed, &[0x80]), ()),
+        (returned, None, ()),
+    );
+    hit
+}
+
+fn compile(file: &[u8]) -> bool {
+    let (mut left, mut wanted) = (vec![7; 1000], vec![7; 1000]);
+    let mut length = 0;
+    let answer = binding::compile(file, &mut left);
+    let returned = lent::compile(file, &mut wanted, &mut length);
+    same("compile", (answer, left), (returned, length, wanted))
+}
+
+fn check(program: &[u8]) -> bool {
+    let (mut registers, mut inputs, mut outputs, mut count) = (0, 0, 0, 0);
+    let returned = lent::check(
+        program,
+        &mut registers,
+        &mut inputs,
+        &mut outputs,
+        &mut count,
+    );
+    let header = Header {
+        registers,
+        inputs,
+        outputs,
+        count,
+    };
+    same(
+        "check",
+        (binding::check(program), ()),
+        (returned, header, ()),
+    )
+}
+
+/// The words on which programs run: inputs, registers, outputs.
+const INPUTS: [u64; 2] = [0x0f0f_3333_5555_00ff, 0x1234_5678_9abc_def0];
+const REGISTERS: [u64; 20] = [0x7777; 20];
+const OUTPUTS: [u64; 4] = [0x5555; 4];
+
+fn start(program: &[u8]) -> bool {
+    let (mut registers, mut outputs) = (REGISTERS, OUTPUTS);
+    let answer = binding::start(program, &INPUTS, &mut registers, &mut outputs, 20);
+    let left = (registers, outputs);
+    let (mut registers, mut outputs) = (REGISTERS, OUTPUTS);
+    let (mut position, mut count, mut finished) = (0, 0, false);
+    let returned = lent::start(
+        program,
+        &INPUTS,
+        &mut registers,
+        &mut outputs,
+        20,
+        &mut position,
+        &mut count,
+        &mut finished,
+    );
+    let run = Run {
+        position,
+        count,
+        finished,
+    };
+    same(
+        "start",
+        (answer, left),
+        (returned, run, (registers, outputs)),
+    )
+}
+
+fn resume(program: &[u8], from: u32) -> bool {
+    let (mut registers, mut outputs) = (REGISTERS, OUTPUTS);
+    let answer = binding::resume(program, &INPUTS, &mut registers, &mut outputs, from, 5);
+    let left = (registers, outputs);
+    let (mut registers, mut outputs) = (REGISTERS, OUTPUTS);
+    let (mut position, mut count, mut finished) = (0, 0, false);
+    let returned = lent::resume(
+        program,
+        &INPUTS,
+        &mut registers,
+        &mut outputs,
+        from,
+        5,
+        &mut position,
+        &mut count,
+        &mut finished,
+    );
+    let run = Run {
+        position,
+        count,
+        finished,
+    };
+    same(
+        "resume",
+        (answer, left),
+        (returned, run, (registers, outputs)),
+    )
+}
+
+/// 64 strings of two bits, all of the four in turn.
+fn strings() -> Vec<u8> {
+    (0..64u8).map(|lane| lane << 6).collect()
+}
+
+fn slice(columns: usize) -> bool {
+    let (mut left, mut wanted) = ([7; 5], [7; 5]);
+    let answer = binding::slice(columns, &strings(), &mut left);
+    let returned = lent::slice(columns, &strings(), &mut wanted);
+    same("slice", (answer, left), (returned, (), wanted))
+}
+
+/// Output words of which every lane spells something else.
+fn outputs(number: usize) -> Vec<u64> {
+    let word = |i: usize| 0x0123_4567_89ab_cdef_u64.rotate_left(7 * i as u32);
+    (0..number).map(word).collect()
+}
+
+fn samples(number: usize) -> bool {
+    let (mut left, mut wanted) = ([7; 66], [7; 66]);
+    let answer = binding::samples(&outputs(number), &mut left);
+    let returned = lent::samples(&outputs(number), &mut wanted);
+    same("samples", (answer, left), (returned, (), wanted))
+}
+
+const SIGN: u64 = 0xf0f0_1234_5678_00ff;
+
+fn signed_samples(number: usize) -> bool {
+    let (mut left, mut wanted) = ([7; 66], [7; 66]);
+    let answer = binding::signed_samples(&outputs(number), SIGN, &mut left);
+    let returned = lent::signed_samples(&outputs(number), SIGN, &mut wanted);
+    same("signed_samples", (answer, left), (returned, (), wanted))
+}
+
+fn draw(program: &[u8]) -> bool {
+    let (mut left, mut wanted) = ([7; 66], [7; 66]);
+    let answer = binding::draw(program, &strings(), &mut left);
+    let returned = lent::draw(program, &strings(), &mut wanted);
+    same("draw", (answer, left), (returned, (), wanted))
+}
+
+fn draw_signed(program: &[u8]) -> bool {
+    let (mut left, mut wanted) = ([7; 66], [7; 66]);
+    let answer = binding::draw_signed(program, &strings(), SIGN, &mut left);
+    let returned = lent::draw_signed(program, &strings(), SIGN, &mut wanted);
+    same("draw_signed", (answer, left), (returned, (), wanted))
+}
+
+/// Each refusal has words of its own.
+fn words() {
+    let mut texts: Vec<String> = (0..=13).map(|number| text(&Refusal(number))).collect();
+    texts.sort();
+    texts.dedup();
+    if texts.len() != 14 {
+        fail("two refusals of the binding have the same words");
+    }
+}
+
+/// The words of a refusal, without its number.
+fn text(refusal: &Refusal) -> String {
+    let text = refusal.to_string();
+    let words = text.split_once(": ");
+    words.map_or(text.clone(), |(_, words)| words.to_string())
+}
