@@ -15,7 +15,7 @@ use Rattle.lanes.specs.Slicing.{lanes, slice-gives}
 use Rattle.lanes.specs.Samples.{code, signedCode}
 use Rattle.compiler.specs.Translation.{program, compiled}
 use Rattle.machine.specs.Runs.{startOf}
-use Rattle.engine.specs.Drawing.{drawnWith, drawOf, drawSignedOf}
+use Rattle.drawing.specs.Drawing.{drawnWith, drawOf, drawSignedOf}
 use Rattle.engine.specs.Demand2.{compiled-is-accepted}
 use Rattle.engine.specs.Batches.{slicedWords, drawnAt, batch-samples, batch-signed}
 

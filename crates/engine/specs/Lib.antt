@@ -1,7 +1,6 @@
 -- Definitions first, then the demands and what follows from them, then the table of cases.
 pub mod Calls
 pub mod Given
-pub mod Drawing
 pub mod Lanewise
 pub mod Demand2
 pub mod Demand3

@@ -6,9 +6,9 @@ ghost use Rattle.laws.specs.Lay.{lay};
 ghost use Rattle.laws.specs.Outcome.{laid};
 ghost use Rattle.lanes.specs.Samples.{signedSamplesOf};
 ghost use Rattle.engine.specs.Calls.{returned};
-ghost use Rattle.engine.specs.Drawing.{drawSignedOf};
-use crate::drawing::Drawn;
-use crate::drawing::draw_signed;
+ghost use Rattle.drawing.specs.Drawing.{drawSignedOf};
+use drawing::Drawn;
+use drawing::draw_signed;
 use files::number;
 use lanes::Sampled;
 

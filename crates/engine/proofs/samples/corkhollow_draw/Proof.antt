@@ -4,7 +4,7 @@ use mathlib.Core.List.{List}
 use Prim.Native.Nat.{ℕ}
 use lib.ListN.{length}
 use Rattle.engine.specs.Calls.{refused-returned, given-returned}
-use Rattle.engine.specs.Drawing.{drawOf}
+use Rattle.drawing.specs.Drawing.{drawOf}
 use Rattle.engine.proofs.samples.corkhollow_draw.Statement.{statement}
 use Rattle.engine.proofs.samples.corkhollow_draw.Tie as tie
 

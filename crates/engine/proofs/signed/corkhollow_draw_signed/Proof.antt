@@ -4,7 +4,7 @@ use mathlib.Core.List.{List}
 use lib.IntN.{ℤ}
 use lib.ListN.{length}
 use Rattle.engine.specs.Calls.{refused-returned, given-returned}
-use Rattle.engine.specs.Drawing.{drawSignedOf}
+use Rattle.drawing.specs.Drawing.{drawSignedOf}
 use Rattle.engine.proofs.signed.corkhollow_draw_signed.Statement.{statement}
 use Rattle.engine.proofs.signed.corkhollow_draw_signed.Tie as tie
 

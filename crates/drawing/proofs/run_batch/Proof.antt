@@ -1,12 +1,12 @@
--- `engine::run_batch` meets its contract: a refusal that is due after the program's own waits for the program's check, and a start on the engine's words
+-- `drawing::run_batch` meets its contract: a refusal that is due after the program's own waits for the program's check, and a start on the engine's words
 -- comes to what it comes to on just as many as the header says. Assumes nothing.
 use borrow.Author.Needs.{needs}
 use lib.ListN.{replicate}
 use Rattle.laws.specs.Outcome.{ends-refused}
 use Rattle.programs.specs.Limits.{most-inputs}
-use Rattle.engine.specs.Drawing.{batch-headless, batch-strings, batch-short, batch-refused, batch-done}
-use Rattle.engine.proofs.drawing.run_batch.Statement.{statement}
-use Rattle.engine.proofs.drawing.run_batch.Tie as tie
+use Rattle.drawing.specs.Drawing.{batch-headless, batch-strings, batch-short, batch-refused, batch-done}
+use Rattle.drawing.proofs.run_batch.Statement.{statement}
+use Rattle.drawing.proofs.run_batch.Tie as tie
 
 read-header-requires : tie.Need-read-header-requires
 read-header-requires c κs = search needs

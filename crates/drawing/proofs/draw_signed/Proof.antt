@@ -1,11 +1,11 @@
--- `engine::draw` meets its contract: what is read is the front of the words that the batch left. Assumes nothing.
+-- `drawing::draw_signed` meets its contract: what is read is the front of the words that the batch left. Assumes nothing.
 use borrow.Author.Needs.{needs}
 use native.Mathlib.Omega.{arith}
 use Rattle.laws.specs.Outcome.{ends-refused}
 use Rattle.machine.specs.Answers.{part-long}
-use Rattle.engine.specs.Drawing.{batch-few, drawn-refused, drawn-read}
-use Rattle.engine.proofs.drawing.draw.Statement.{statement}
-use Rattle.engine.proofs.drawing.draw.Tie as tie
+use Rattle.drawing.specs.Drawing.{batch-few, drawn-refused, drawn-read}
+use Rattle.drawing.proofs.draw_signed.Statement.{statement}
+use Rattle.drawing.proofs.draw_signed.Tie as tie
 
 slice-aggregate-run-batch : tie.Need-slice-aggregate-run-batch
 slice-aggregate-run-batch c = search needs
@@ -24,13 +24,13 @@ array-share-prefix-outputs c =
     let many = rw (c .before .n .given .1) at (c .before .before .before .before .run-batch .ensures .0) in
     omega (arith, batch-few _ _ _ _ many)
 
-slice-aggregate-samples : tie.Need-slice-aggregate-samples
-slice-aggregate-samples c =
+slice-aggregate-signed-samples : tie.Need-slice-aggregate-signed-samples
+slice-aggregate-signed-samples c =
     let many = rw (c .before .before .n .given .1) at (c .before .before .before .before .before .run-batch .ensures .0) in
     part-long _ (c .before .before .before .before .before .run-batch .last .1 .1 .1 .0) (omega (arith, batch-few _ _ _ _ many))
 
-samples-requires : tie.Need-samples-requires
-samples-requires c κs = search needs
+signed-samples-requires : tie.Need-signed-samples-requires
+signed-samples-requires c κs = search needs
 
 enum-known-why-2 : tie.Need-enum-known-why-2
 enum-known-why-2 c = search needs
@@ -46,21 +46,21 @@ same-length c = search needs
 
 returns-2 : tie.Need-returns-2
 returns-2 c =
-    let many = rw (c .before .before .before .before .before .before .before .before .before .n .given .1) at (c .before .before .before .before .before .before .before .before .before .before .before .before .run-batch .ensures .0) in
-    drawn-read _ _ _ _ _ many _ _ (c .before .before .before .before .before .before .before .before .before .before .before .before .run-batch .ensures .1) _ _ _
-    (rw (c .before .why2 .given .1) at (c .before .before .before .before .before .samples .ensures .0)) (c .before .before .before .before .before .samples .ensures .1)
+    let many = rw (c .before .before .before .before .before .before .before .before .n .given .1) at (c .before .before .before .before .before .before .before .before .before .before .before .run-batch .ensures .0) in
+    drawn-read _ _ _ _ _ many _ _ (c .before .before .before .before .before .before .before .before .before .before .before .run-batch .ensures .1) _ _ _
+    (rw (c .before .why2 .given .1) at (c .before .before .before .before .signed-samples .ensures .0)) (c .before .before .before .before .signed-samples .ensures .1)
 
 same-length-2 : tie.Need-same-length-2
 same-length-2 c = search needs
 
 returns-3 : tie.Need-returns-3
 returns-3 c =
-    let many = rw (c .before .before .before .before .before .before .before .before .n .given .1) at (c .before .before .before .before .before .before .before .before .before .before .before .run-batch .ensures .0) in
-    drawn-read _ _ _ _ _ many _ _ (c .before .before .before .before .before .before .before .before .before .before .before .run-batch .ensures .1) _ _ _
-    (rw (c .enum-told .given .1) at (c .before .before .before .before .samples .ensures .0)) (c .before .before .before .before .samples .ensures .1)
+    let many = rw (c .before .before .before .before .before .before .before .n .given .1) at (c .before .before .before .before .before .before .before .before .before .before .run-batch .ensures .0) in
+    drawn-read _ _ _ _ _ many _ _ (c .before .before .before .before .before .before .before .before .before .before .run-batch .ensures .1) _ _ _
+    (rw (c .enum-told .given .1) at (c .before .before .before .signed-samples .ensures .0)) (c .before .before .before .signed-samples .ensures .1)
 
-pub draw-spec : {M : Type 1} → statement M
-draw-spec =
+pub draw-signed-spec : {M : Type 1} → statement M
+draw-signed-spec =
     tie.close
     (tie.spec
     slice-aggregate-run-batch
@@ -68,8 +68,8 @@ draw-spec =
     enum-known-why
     enum-known-n
     array-share-prefix-outputs
-    slice-aggregate-samples
-    samples-requires
+    slice-aggregate-signed-samples
+    signed-samples-requires
     enum-known-why-2
     enum-told
     returns

@@ -29,10 +29,10 @@ use Rattle.machine.specs.declared.runs.Run.{Run}
 use Rattle.lanes.specs.Slicing.{lanes, sliceOf, wordOf}
 use Rattle.lanes.specs.Samples.{samplesOf, signedSamplesOf}
 use Rattle.lanes.specs.Lanes.{cut}
-use Rattle.engine.specs.declared.drawing.Drawn.{Drawn}
-use Rattle.engine.specs.declared.drawing.Drawn.the-variants as Drawn
-use Rattle.engine.specs.declared.drawing.Batch.{Batch}
-use Rattle.engine.specs.declared.drawing.Batch.the-variants as Batch
+use Rattle.drawing.specs.declared.Drawn.{Drawn}
+use Rattle.drawing.specs.declared.Drawn.the-variants as Drawn
+use Rattle.drawing.specs.declared.Batch.{Batch}
+use Rattle.drawing.specs.declared.Batch.the-variants as Batch
 
 -- drawing into a buffer of `room` places, with a way of reading the outputs: the program's own refusals, 13 and 5 for the strings, 13 for the samples
 unfoldable pub drawnWith : {A : Type 0} → List ℕ → List ℕ → ℕ → (List ℕ → Outcome A) → Outcome A

@@ -1,8 +1,8 @@
--- `engine::first_refusal` meets its contract: the check refuses, or it does not. Assumes nothing.
+-- `drawing::first_refusal` meets its contract: the check refuses, or it does not. Assumes nothing.
 use borrow.Author.Needs.{needs}
-use Rattle.engine.specs.Drawing.{after-own, after-none}
-use Rattle.engine.proofs.drawing.first_refusal.Statement.{statement}
-use Rattle.engine.proofs.drawing.first_refusal.Tie as tie
+use Rattle.drawing.specs.Drawing.{after-own, after-none}
+use Rattle.drawing.proofs.first_refusal.Statement.{statement}
+use Rattle.drawing.proofs.first_refusal.Tie as tie
 
 check-requires : tie.Need-check-requires
 check-requires c κs = search needs

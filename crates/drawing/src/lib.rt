@@ -1,4 +1,8 @@
-// Drawing 64 samples in one call: check, slice, start and read (01, "Runs, words, samples").
+// Drawing 64 samples in one call: check, slice, start and read (01, "Runs, words, samples"). A program and 64 strings go to 64 samples on words of the
+// call's own, so that no batch can inherit another's.
+//
+// Both operations take any content and any length, and answer a result or one refusal. Their contracts cite `drawOf` and `drawSignedOf` of
+// specs/Drawing.antt; the samples end as they began, with what the outcome lays at their front.
 ghost use mathlib.Core.Path.{_≡_};
 ghost use Prim.Native.Nat.{_≤_};
 ghost use lib.ListN.{length};
@@ -6,7 +10,7 @@ ghost use Rattle.laws.specs.Lay.{lay};
 ghost use Rattle.laws.specs.Outcome.{laid, mapped, refused};
 ghost use Rattle.files.specs.Refusal.{numberOf};
 ghost use Rattle.programs.specs.Limits.{most-outputs};
-ghost use Rattle.engine.specs.Drawing.{afterOwn, batched, batchOf, drawn, drawOf, drawSignedOf};
+ghost use Rattle.drawing.specs.Drawing.{afterOwn, batched, batchOf, drawn, drawOf, drawSignedOf};
 use files::Refusal;
 use lanes::LANES;
 use lanes::Sampled;
