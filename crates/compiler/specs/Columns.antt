@@ -8,12 +8,12 @@ use lib.ListN.{length, getD}
 use Rattle.laws.specs.Places.{lt-or-ge}
 use Rattle.laws.specs.Sums.{sumTo}
 use Rattle.laws.specs.Lay.{blocks}
+use Rattle.laws.specs.Each.{Each, each-blocks}
 use Rattle.files.specs.Live.{weight}
 use Rattle.programs.specs.declared.description.Instruction.{Instruction}
 use Rattle.programs.specs.declared.description.Instruction.the-variants.{Input, Not, And, Or}
 use Rattle.walk.specs.Walk.{Place, at, scan}
 use Rattle.machine.specs.Meaning.{State, exec}
-use Rattle.machine.specs.Accepting.{Each, each-blocks}
 use Rattle.compiler.specs.Translation.{regB, regN, regH, regV, regX, regY, apart, split, ifSet, spell, mark, met, marks, carry, keep, liveBefore, column}
 use Rattle.compiler.specs.Room.{Roomy, live-le, live-next}
 use Rattle.compiler.specs.PlaceBits.{isHit, rowBit, isAt, doubled, meeting, onto, doubled-even, doubled-odd, doubled-hit, doubled-row, meeting-hit, meeting-row, meeting-at, onto-none, onto-clear, onto-set}

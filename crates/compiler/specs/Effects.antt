@@ -9,11 +9,11 @@ use native.Mathlib.Omega.{arith}
 use lib.ListN.{length, getD, length-set}
 use lib.Seq.{getD-set-same, getD-set-other}
 use Rattle.laws.specs.Lay.{blocks}
+use Rattle.laws.specs.Each.{Each}
 use Rattle.programs.specs.Instructions.{uses}
 use Rattle.programs.specs.declared.description.Instruction.{Instruction}
 use Rattle.programs.specs.declared.description.Instruction.the-variants.{Ones, Zero, Input, Not, And, Or, Output}
 use Rattle.machine.specs.Meaning.{bits, State, step, exec}
-use Rattle.machine.specs.Accepting.{Each}
 
 -- what a register and an output hold
 abbrev pub reg : State ℕ → ℕ → ℕ

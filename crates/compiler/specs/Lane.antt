@@ -6,11 +6,11 @@ use mathlib.Core.Logic.{_≢_}
 use native.Mathlib.Omega.{arith}
 use lib.ListN.{length, getD}
 use Rattle.laws.specs.Lay.{blocks}
+use Rattle.laws.specs.Each.{each-blocks}
 use Rattle.programs.specs.declared.description.Instruction.{Instruction}
 use Rattle.programs.specs.declared.description.Instruction.the-variants.{Ones, Zero, Output}
 use Rattle.walk.specs.Walk.{Place, left}
 use Rattle.machine.specs.Meaning.{State, exec}
-use Rattle.machine.specs.Accepting.{each-blocks}
 use Rattle.compiler.specs.Translation.{regH, regV, regX, clear, begin, tell, end, liveBefore, column}
 use Rattle.compiler.specs.Room.{Roomy}
 use Rattle.compiler.specs.PlaceBits.{same, isHit, rowBit, isAt}

@@ -7,10 +7,11 @@ use native.Mathlib.Nat.{eq-or-lt-of-le, le-of-suc-le-suc}
 use native.Mathlib.Omega.{arith}
 use Rattle.laws.specs.Sums.{sumTo}
 use Rattle.laws.specs.Lay.{blocks}
+use Rattle.laws.specs.Each.{Each, each-append, each-blocks}
 use Rattle.files.specs.Live.{weight}
 use Rattle.programs.specs.declared.description.Instruction.{Instruction}
 use Rattle.programs.specs.declared.description.Instruction.the-variants.{Or, Output}
-use Rattle.machine.specs.Accepting.{Each, Fits, Sets, each-append, each-blocks, sets-left, sets-right}
+use Rattle.machine.specs.Accepting.{Fits, Sets, sets-left, sets-right}
 use Rattle.compiler.specs.Translation.{regV, regY, clear, begin, apart, split, ifSet, spell, mark, met, marks, carry, keep, tell, end, liveBefore, column}
 use Rattle.compiler.specs.Room.{Roomy, live-le, live-next}
 

@@ -7,11 +7,12 @@ use mathlib.Core.Logic.{_⊎_, inl, inr, ⊎-elim}
 use native.Mathlib.Nat.{eq-or-lt-of-le}
 use native.Mathlib.Omega.{arith}
 use Rattle.laws.specs.Lay.{blocks}
+use Rattle.laws.specs.Each.{Each, each-blocks}
 use Rattle.files.specs.Live.{weight}
 use Rattle.programs.specs.Instructions.{uses}
 use Rattle.programs.specs.declared.description.Instruction.{Instruction}
 use Rattle.programs.specs.declared.description.Instruction.the-variants.{Or}
-use Rattle.machine.specs.Accepting.{Each, OneOf, Ready, none, each-blocks, ready-more, ready-less, ready-append, ready-blocks, ready-stay}
+use Rattle.machine.specs.Accepting.{OneOf, Ready, none, ready-more, ready-less, ready-append, ready-blocks, ready-stay}
 use Rattle.compiler.specs.Translation.{regB, regN, regH, regV, regX, regY, clear, begin, apart, split, ifSet, spell, mark, met, marks, carry, keep, tell, end, liveBefore, column}
 use Rattle.compiler.specs.Room.{Roomy, live-next}
 use Rattle.compiler.specs.Ranges.{marks-each}

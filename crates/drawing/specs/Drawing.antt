@@ -21,8 +21,7 @@ use Rattle.programs.specs.declared.description.Program.{Program}
 use Rattle.machine.specs.Meaning.{Gates, words}
 use Rattle.machine.specs.Checks.{Code, checkOf}
 use Rattle.machine.specs.Runs.{Ended, runOf, startOn, startOf}
-use Rattle.machine.specs.Checking.{check-refused}
-use Rattle.machine.specs.Encoding.{check-says}
+use Rattle.machine.specs.Checking.{check-refused, check-says}
 use Rattle.machine.specs.LaneLaw.{start-inputs, start-forgets-enough}
 use Rattle.machine.specs.Resuming.{Room, Enough, cleared, start-is, admitted-gives, exec-long}
 use Rattle.machine.specs.declared.runs.Run.{Run}

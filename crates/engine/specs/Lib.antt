@@ -6,5 +6,4 @@ pub mod Demand2
 pub mod Demand3
 pub mod Batches
 pub mod Draws
-pub mod Waiting
 pub mod Cases

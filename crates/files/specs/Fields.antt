@@ -48,6 +48,10 @@ unfoldable pub spare : List ℕ → ℕ → ℕ → Bool
 spare bytes n at = not (eqb (number (bitOf bytes at) n (8 * width n - n)) 0)
 
 -- ---- fields
+pub field-small : (bytes : List ℕ) (at : ℕ) → getD bytes at 0 < 256 → getD bytes (at + 1) 0 < 256 → fieldOf bytes at < 65536
+unfolding fieldOf
+field-small bytes at a b = omega arith
+
 pub field-beyond : (bytes : List ℕ) (at : ℕ) → length bytes ≤ at → 0 ≡ fieldOf bytes at
 unfolding fieldOf
 field-beyond bytes at h = rw (List·getD-eq-default bytes 0 {n = at} h, List·getD-eq-default bytes 0 {n = at + 1} (omega arith))

@@ -5,5 +5,6 @@ pub mod Digits
 pub mod Words
 pub mod Places
 pub mod Lay
+pub mod Each
 pub mod From
 pub mod Outcome

@@ -9,7 +9,7 @@ use lib.Dec.{eqb, ltb}
 use lib.ListN.{length, getD, take}
 use lib.Seq.{getD-take, length-take-le}
 use Rattle.laws.specs.Outcome.{Outcome, refused, gives, refuse, _>>_, passed, bound, mapped, mapped-gives, gives-inj}
-use Rattle.files.specs.Fields.{fieldOf}
+use Rattle.files.specs.Fields.{fieldOf, field-small}
 use Rattle.files.specs.Matrix.{Sizes, outside, most-rows, most-columns}
 use Rattle.files.specs.Files.{fileLength, headerOf, matrixOf}
 use Rattle.programs.specs.Instructions.{lengthOf}
@@ -58,10 +58,6 @@ long-header file a b =
     (long-checks (not (eqb (fieldOf file 2) 32)) (outside most-rows (fieldOf file 4)) (outside most-columns (fieldOf file 6))
     (not (eqb (fieldOf file 0) (fileLength (fieldOf file 4) (fieldOf file 6)))))
 
-field-small : (file : List ℕ) (at : ℕ) → ((i : ℕ) → getD file i 0 < 256) → fieldOf file at < 65536
-unfolding fieldOf
-field-small file at bytes = omega (arith, bytes at, bytes (at + 1))
-
 field-front : (most : ℕ) (file : List ℕ) (at : ℕ) → at + 1 < most → fieldOf (take most file) at ≡ fieldOf file at
 unfolding fieldOf
 field-front most file at h = rw (getD-take most file at 0 (omega arith), getD-take most file (at + 1) 0 h)
@@ -73,6 +69,6 @@ unfolding compileOf matrixOf
 front-decides most file room bytes a b =
     let same = field-front most file in
     let long : length (take most file) ≡ most = length-take-le most file b in
-    let small : fieldOf file 0 < 65536 = field-small file 0 bytes in
+    let small : fieldOf file 0 < 65536 = field-small file 0 (bytes 0) (bytes 1) in
     let front = long-header (take most file) (rw long (omega arith)) (rw (same 0 (omega arith), long) (omega arith)) in
     rw (front, long-header file (omega arith) (omega arith), same 2 (omega arith), same 4 (omega arith), same 6 (omega arith))

@@ -14,6 +14,7 @@ use Rattle.laws.specs.Tests.{never}
 use Rattle.laws.specs.Sums.{any-all}
 use Rattle.laws.specs.Lay.{blocks}
 use Rattle.laws.specs.Outcome.{gives}
+use Rattle.laws.specs.Each.{Each, each-more}
 use Rattle.programs.specs.Limits.{within}
 use Rattle.programs.specs.Records.{recordBytes}
 use Rattle.programs.specs.Instructions.{uses, lengthOf, instructionBytes, decodeOf}
@@ -25,11 +26,6 @@ use Rattle.programs.specs.declared.description.Instruction.{Instruction}
 use Rattle.machine.specs.Checks.{every, also, inRange, instructionOf, codeOf, nothing, checkOf}
 
 -- ---- the judgment
--- a fact of each element of a list
-abbrev pub Each : {A : Type 0} → (A → Type 0) → List A → Type 0
-Each P [] = Unit {0}
-Each P (x ∷ xs) = P x × Each P xs
-
 -- a number is one of the list's
 abbrev pub OneOf : List ℕ → ℕ → Type 0
 OneOf [] x = ⊥
@@ -64,19 +60,6 @@ pub record Sound (p : Program) (is : List Instruction) : Type 0 where
   pub all-set : (o : ℕ) → o < p .outputs → Sets o is
 
 -- ---- laws for lists of instructions
-pub each-append : {A : Type 0} (P : A → Type 0) (xs ys : List A) → Each P xs → Each P ys → Each P (xs ++ ys)
-each-append P [] ys a b = b
-each-append P (x ∷ xs) ys a b = (a .0, each-append P xs ys (a .1) b)
-
-pub each-blocks : {A : Type 0} (P : A → Type 0) (f : ℕ → List A) (n : ℕ) → ((i : ℕ) → i < n → Each P (f i)) → Each P (blocks n f)
-unfolding blocks
-each-blocks P f zero g = tt
-each-blocks P f (suc n) g = each-append P (blocks n f) (f n) (each-blocks P f n (λ i l. g i (omega arith))) (g n (omega arith))
-
-pub each-more : {A : Type 0} (P Q : A → Type 0) (xs : List A) → ((x : A) → P x → Q x) → Each P xs → Each Q xs
-each-more P Q [] f e = tt
-each-more P Q (x ∷ xs) f e = (f x (e .0), each-more P Q xs f (e .1))
-
 -- with more written before
 pub ready-more : (is : List Instruction) (W Z U : ℕ → Type 0) → ((r : ℕ) → W r → Z r) → Ready W is U → Ready Z is U
 ready-more [] W Z U f e = λ r u. f r (e r u)

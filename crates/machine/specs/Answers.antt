@@ -7,12 +7,12 @@ use native.Mathlib.Omega.{arith}
 use borrow.Author.Tests.{le-ltb, lt-ltb, ltb-false, not-false}
 use lib.Dec.{ltb}
 use lib.ListN.{length, take, drop, replicate, length-set, length-take, length-replicate}
-use Rattle.laws.specs.Tests.{never}
+use Rattle.laws.specs.Tests.{neither}
 use Rattle.laws.specs.Sums.{any}
 use Rattle.laws.specs.Lay.{lay, lay-nothing}
 use Rattle.laws.specs.Outcome.{Outcome, refused, gives, refuse, _>>_, _>>=_, passed, bound, gives-inj, mapped, laid, mapped-gives, mapped-refused}
 use Rattle.programs.specs.Instructions.{uses, lengthOf, decodeOf}
-use Rattle.programs.specs.Header.{header-length, headerOf}
+use Rattle.programs.specs.Header.{header-length}
 use Rattle.programs.specs.declared.description.Program.{Program}
 use Rattle.programs.specs.declared.description.Instruction.{Instruction}
 use Rattle.programs.specs.declared.description.Instruction.the-variants.{Ones, Zero, Input, Not, And, Or, Output}
@@ -21,7 +21,7 @@ use Rattle.machine.specs.Checks.{Code, every, also, inRange, instruction
 use Rattle.machine.specs.Runs.{Ended, steps, runOf, roomFor, startOn, resumeOn, startOf, resumeOf}
 use Rattle.machine.specs.Standing.{readOf, Formed}
 use Rattle.machine.specs.Turns.{state, Ends}
-use Rattle.machine.specs.Checking.{range-means, range-wider}
+use Rattle.machine.specs.Checking.{range-means, range-wider, check-says}
 use Rattle.machine.specs.declared.runs.Run.{Run}
 
 -- ---- lengths stay
@@ -88,25 +88,10 @@ pub record Accepted (file : List ℕ) (p : Program) : Type 0 where
   pub reads : readOf (p .count) (drop header-length file) ≡ code .instructions
   pub counted : length (code .instructions) ≡ p .count
 
-code-same : (p q : Program) (is js : List Instruction) (bytes : List ℕ) → p ≡ q → is ≡ js → codeOf (p .count) p nothing nothing bytes ≡ gives is →
-    codeOf (q .count) q nothing nothing bytes ≡ gives js
-code-same p q is js bytes a b e = rw (a, b) at e
-
-check-means : (file : List ℕ) (c : Code) → checkOf file ≡ gives c →
-    codeOf (c .program .count) (c .program) nothing nothing (drop header-length file) ≡ gives (c .instructions)
-unfolding checkOf
-check-means file c e =
-    let c1 = bound (headerOf file) _ c e in
-    let c2 = bound (codeOf (c1 .0 .count) (c1 .0) nothing nothing (drop header-length file)) _ c (c1 .2) in
-    let whole : record { program = c1 .0; instructions = c2 .0 } ≡ c = gives-inj (c2 .2) in
-    let p : c1 .0 ≡ c .program = ap (λ (d : Code). d .program) whole in
-    let is : c2 .0 ≡ c .instructions = ap (λ (d : Code). d .instructions) whole in
-    code-same (c1 .0) (c .program) (c2 .0) (c .instructions) (drop header-length file) p is (c2 .1)
-
 pub accepted : (file : List ℕ) (p : Program) → gives p ≡ mapped (λ c. c .program) (checkOf file) → Accepted file p
 accepted file p e =
     let m = mapped-gives (λ (c : Code). c .program) (checkOf file) p e in
-    let s = rw (m .2) at (check-means file (m .0) (m .1)) in
+    let s = rw (m .2) at (check-says file (m .0) (m .1) .1) in
     let own : Reaches p (p .registers) (p .inputs) (p .outputs) = record { registers = omega arith; inputs = omega arith; outputs = omega arith } in
     let h = code-stands p _ _ _ own (p .count) nothing nothing (drop header-length file) (m .0 .instructions) s in
     record { code = m .0; checks = m .1; header = m .2; stands = s; reads = h .1; counted = h .2 }
@@ -122,15 +107,11 @@ room-is : (p : Program) (inputs registers outputs : List ℕ) → roomFor words 
     refuse 13 (ltb (length inputs) (p .inputs) || ltb (length registers) (p .registers) || ltb (length outputs) (p .outputs))
 room-is p inputs registers outputs = either (ltb (length inputs) (p .inputs)) (ltb (length registers) (p .registers)) (ltb (length outputs) (p .outputs))
 
-neither : (a b c : Bool) → (a || b || c) ≡ false → (a ≡ false) × (b ≡ false) × (c ≡ false)
-neither true b c e = never (sym e)
-neither false true c e = never (sym e)
-neither false false c e = (refl, refl, e)
-
 pub room-means : (p : Program) (ni nr nq : ℕ) (b : Bool) → b ≡ (ltb ni (p .inputs) || ltb nr (p .registers) || ltb nq (p .outputs)) → b ≡ false → Reaches p nr ni nq
 room-means p ni nr nq b e q =
-    let s = neither (ltb ni (p .inputs)) (ltb nr (p .registers)) (ltb nq (p .outputs)) (sym e ∙ q) in
-    record { registers = ltb-false nr (p .registers) (s .1); inputs = ltb-false ni (p .inputs) (s .0); outputs = ltb-false nq (p .outputs) (s .2) }
+    let s = neither (ltb ni (p .inputs) || ltb nr (p .registers)) (ltb nq (p .outputs)) (sym e ∙ q) in
+    let t = neither (ltb ni (p .inputs)) (ltb nr (p .registers)) (s .0) in
+    record { registers = ltb-false nr (p .registers) (t .1); inputs = ltb-false ni (p .inputs) (t .0); outputs = ltb-false nq (p .outputs) (s .1) }
 
 -- the parts that are lent
 pub part-long : (n : ℕ) (ws : List ℕ) → n ≤ length ws → n ≡ length (take n ws)

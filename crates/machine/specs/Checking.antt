@@ -13,7 +13,7 @@ use lib.ListN.{length, getD, set, drop, length-drop, length-set, replicate, leng
 use lib.Seq.{drop-drop, getD-set-same, getD-set-other}
 use Rattle.laws.specs.Tests.{both}
 use Rattle.laws.specs.Sums.{any}
-use Rattle.laws.specs.Outcome.{Outcome, refused, gives, _>>_, _>>=_, mapped}
+use Rattle.laws.specs.Outcome.{Outcome, refused, gives, _>>_, _>>=_, mapped, bound, gives-inj}
 use Rattle.files.specs.Fields.{fieldOf}
 use Rattle.files.specs.Refusal.{numberOf}
 use Rattle.programs.specs.Limits.{most-registers, most-inputs, most-outputs, within, unwritten, unset}
@@ -414,3 +414,14 @@ module _ (file : List ℕ) where
     check-body o q =
         q ∙ (mapped-same p (λ (c : Code). c .program) (λ (is : List Instruction). record { program = p; instructions = is }) (λ is. refl)
         (codeOf (p .count) p nothing nothing (drop header-length file)) ∙ rw (← e))
+
+-- what a check that has passed says: header, then instructions
+pub check-says : (file : List ℕ) (c : Code) → checkOf file ≡ gives c →
+    (headerOf file ≡ gives (c .program)) ×
+    (codeOf (c .program .count) (c .program) nothing nothing (drop header-length file) ≡ gives (c .instructions))
+unfolding checkOf
+check-says file c e =
+    let c1 = bound (headerOf file) _ c e in
+    let c2 = bound (codeOf (c1 .0 .count) (c1 .0) nothing nothing (drop header-length file)) _ c (c1 .2) in
+    let same = gives-inj (c2 .2) in
+    rw (← same) (c1 .1, c2 .1)

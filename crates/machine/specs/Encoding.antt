@@ -12,15 +12,17 @@ use lib.Seq.{getD-drop}
 use Rattle.laws.specs.Tests.{never, both}
 use Rattle.laws.specs.Sums.{any, any-false}
 use Rattle.laws.specs.Outcome.{gives, passed, bound, gives-inj}
+use Rattle.laws.specs.Each.{Each}
 use Rattle.programs.specs.Limits.{most-registers, most-inputs, most-outputs, most-instructions, within}
 use Rattle.programs.specs.Instructions.{uses, lengthOf, instructionBytes, decodeOf}
-use Rattle.programs.specs.Header.{header-length, headerBytes, headerOf, codeBytes, programFile}
+use Rattle.programs.specs.Header.{header-length, headerBytes, codeBytes, programFile}
 use Rattle.programs.specs.Reading.{Within, within-means}
 use Rattle.programs.specs.Inverse.{header-reads, instruction-back, header-back}
 use Rattle.programs.specs.declared.description.Program.{Program}
 use Rattle.programs.specs.declared.description.Instruction.{Instruction}
 use Rattle.machine.specs.Checks.{Code, every, also, inRange, instructionOf, codeOf, nothing, checkOf}
-use Rattle.machine.specs.Accepting.{Each, OneOf, Fits, Ready, Sets, none, Sound, accepted}
+use Rattle.machine.specs.Checking.{check-says}
+use Rattle.machine.specs.Accepting.{OneOf, Fits, Ready, Sets, none, Sound, accepted}
 
 -- ---- what acceptance means in plain words
 -- instruction i stands at position k
@@ -98,16 +100,6 @@ code-ends p written set bytes is e =
     empty : (l : List ℕ) → length l ≤ 0 → l ≡ []
     empty [] h = refl
     empty (x ∷ l) h = absurd (omega arith)
-
-pub check-says : (file : List ℕ) (c : Code) → checkOf file ≡ gives c →
-    (headerOf file ≡ gives (c .program)) ×
-    (codeOf (c .program .count) (c .program) nothing nothing (drop header-length file) ≡ gives (c .instructions))
-unfolding checkOf
-check-says file c e =
-    let c1 = bound (headerOf file) _ c e in
-    let c2 = bound (codeOf (c1 .0 .count) (c1 .0) nothing nothing (drop header-length file)) _ c (c1 .2) in
-    let same = gives-inj (c2 .2) in
-    rw (← same) (c1 .1, c2 .1)
 
 -- ---- an accepted file is the encoding of what is read from it
 code-back : (n : ℕ) (p : Program) (written set : ℕ → Bool) (bytes : List ℕ) (is : List Instruction) → ((k : ℕ) → getD bytes k 0 < 256) →

@@ -13,18 +13,19 @@ use lib.ListN.{length, getD, set, take, drop, replicate, length-map, List·getD-
 use lib.Seq.{ext-getD, getD-take, getD-set-same, getD-set-other, length-take-le, take-all}
 use Rattle.laws.specs.Words.{bitAt, bitAt-zero, bitAt-and, bitAt-or, bitAt-not}
 use Rattle.laws.specs.Outcome.{gives, mapped, mapped-gives, mapped-mapped}
+use Rattle.laws.specs.Each.{Each, each-take, each-drop, each-more}
 use Rattle.programs.specs.Instructions.{uses}
 use Rattle.programs.specs.declared.description.Program.{Program}
 use Rattle.programs.specs.declared.description.Instruction.{Instruction}
 use Rattle.programs.specs.declared.description.Instruction.the-variants.{Ones, Zero, Input, Not, And, Or, Output}
 use Rattle.machine.specs.Meaning.{Gates, words, bits, State, step, exec}
 use Rattle.machine.specs.Checks.{Code, checkOf}
-use Rattle.machine.specs.Runs.{Ended, steps, runOf, startOn, resumeOn, startOf, resumeOf}
-use Rattle.machine.specs.Accepting.{Each, OneOf, Fits, Ready, Sets, none, Sound}
+use Rattle.machine.specs.Runs.{Ended, steps, carried, runOf, startOn, resumeOn, startOf, resumeOf}
+use Rattle.machine.specs.Accepting.{OneOf, Fits, Ready, Sets, none, Sound}
 use Rattle.machine.specs.Encoding.{accepted-sound}
 use Rattle.machine.specs.Resuming.{Room, Enough, Sized, sized-cleared, sized-lent, step-long, exec-long}
 use Rattle.machine.specs.Resuming.{cleared, lent, admitted, startRun, resumeRun, start-is, resume-is, start-whole, resume-whole}
-use Rattle.machine.specs.Resuming.{equal-lengths, both-enough}
+use Rattle.machine.specs.Resuming.{equal-lengths, both-enough, together, goneOn, start-continued, resume-continued}
 
 -- ---- maps that commute with the gates
 -- P holds of all that the gates make of what it holds of
@@ -103,17 +104,6 @@ module _ {A B : Type 0} (f : A → B) where
   map-replicate : (n : ℕ) (x : A) → map f (replicate n x) ≡ replicate n (f x)
   map-replicate zero x = refl
   map-replicate (suc n) x = ap (λ (l : List B). f x ∷ l) (map-replicate n x)
-
-module _ {A : Type 0} (P : A → Type 0) where
-  each-drop : (n : ℕ) (xs : List A) → Each P xs → Each P (drop n xs)
-  each-drop zero xs e = e
-  each-drop (suc n) [] e = e
-  each-drop (suc n) (x ∷ xs) e = each-drop n xs (e .1)
-
-  each-take : (n : ℕ) (xs : List A) → Each P xs → Each P (take n xs)
-  each-take zero xs e = tt
-  each-take (suc n) [] e = tt
-  each-take (suc n) (x ∷ xs) e = (e .0, each-take n xs (e .1))
 
 -- ---- what holds of the words before a run holds of those after
 module _ {A : Type 0} (G : Gates A) (P : A → Type 0) (c : Closed G P) (inputs : List A) (p : All G P inputs) where
@@ -339,24 +329,28 @@ module _ (j : ℕ) (h : j < 64) where
         o,
       )
 
--- ---- what the instructions of an accepted program do not see
+-- ---- what instructions do not see of the words that are lent
+-- the instruction takes no input from number k on
+abbrev pub Before : ℕ → Instruction → Type 0
+Before k i = Each (λ n. n < k) (uses i .takes)
+
+-- inputs that no instruction takes
+module _ {A : Type 0} (G : Gates A) (inputs inputs′ : List A) (k : ℕ) (same : (n : ℕ) → n < k → getD inputs n (G .zeros) ≡ getD inputs′ n (G .zeros)) where
+  step-inputs : (i : Instruction) (s : State A) → Before k i → step G inputs i s ≡ step G inputs′ i s
+  step-inputs (Ones to) s b = refl
+  step-inputs (Zero to) s b = refl
+  step-inputs (Input to n) s b = rw (same n (b .0))
+  step-inputs (Not to a) s b = refl
+  step-inputs (And to x y) s b = refl
+  step-inputs (Or to x y) s b = refl
+  step-inputs (Output o a) s b = refl
+
+  exec-inputs : (is : List Instruction) (s : State A) → Each (Before k) is → exec G inputs is s ≡ exec G inputs′ is s
+  unfolding exec
+  exec-inputs [] s b = refl
+  exec-inputs (i ∷ is) s b = rw (step-inputs i s (b .0)) (exec-inputs is (step G inputs′ i s) (b .1))
+
 module _ {A : Type 0} (G : Gates A) (p : Program) where
-  -- input words beyond the header's
-  module _ (inputs inputs′ : List A) (same : (n : ℕ) → n < p .inputs → getD inputs n (G .zeros) ≡ getD inputs′ n (G .zeros)) where
-    step-inputs : (i : Instruction) (s : State A) → Fits p i → step G inputs i s ≡ step G inputs′ i s
-    step-inputs (Ones to) s f = refl
-    step-inputs (Zero to) s f = refl
-    step-inputs (Input to n) s f = rw (same n (f .2 .0))
-    step-inputs (Not to a) s f = refl
-    step-inputs (And to a b) s f = refl
-    step-inputs (Or to a b) s f = refl
-    step-inputs (Output o a) s f = refl
-
-    pub exec-inputs : (is : List Instruction) (s : State A) → Each (Fits p) is → exec G inputs is s ≡ exec G inputs′ is s
-    unfolding exec
-    exec-inputs [] s f = refl
-    exec-inputs (i ∷ is) s f = rw (step-inputs i s (f .0)) (exec-inputs is (step G inputs′ i s) (f .1))
-
   -- what registers and outputs held before: two states agree in the registers of W and in the outputs of O, which are more after each instruction
   record Agree (W O : ℕ → Type 0) (s t : State A) : Type 0 where
     registers : (r : ℕ) → W r → getD (s .registers) r (G .zeros) ≡ getD (t .registers) r (G .zeros)
@@ -450,39 +444,61 @@ module _ {A : Type 0} (G : Gates A) (p : Program) where
 
 -- ---- the same of starts and resumes of an accepted file
 module _ {A : Type 0} (G : Gates A) (file : List ℕ) (c : Code) (ok : checkOf file ≡ gives c) where
-  module _ (inputs inputs′ : List A) (same : (n : ℕ) → n < c .program .inputs → getD inputs n (G .zeros) ≡ getD inputs′ n (G .zeros)) where
-    run-inputs : (position budget : ℕ) (s : State A) →
-        runOf G (c .instructions) inputs position budget s ≡ runOf G (c .instructions) inputs′ position budget s
-    unfolding runOf
-    run-inputs position budget s =
-        let n : ℕ = steps budget position (length (c .instructions)) in
-        let fits : Each (Fits (c .program)) (take n (drop position (c .instructions))) =
-        each-take (Fits (c .program)) n (drop position (c .instructions))
-        (each-drop (Fits (c .program)) position (c .instructions) (accepted-sound file c ok .in-range)) in
-        rw (exec-inputs G (c .program) inputs inputs′ same (take n (drop position (c .instructions))) s fits)
+  module _ (inputs inputs′ : List A) (k : ℕ) (same : (n : ℕ) → n < k → getD inputs n (G .zeros) ≡ getD inputs′ n (G .zeros))
+      (registers outputs : List A) (l : c .program .inputs ≤ length inputs) (l′ : c .program .inputs ≤ length inputs′) where
+    -- a start, and a resume, of which no instruction takes a word from number k on come to the same whatever those words are
+    pub start-waits : (budget : ℕ) → Each (Before k) (carried budget 0 (c .instructions)) →
+        startOn G file inputs registers outputs budget ≡ startOn G file inputs′ registers outputs budget
+    unfolding startOn runOf
+    start-waits budget b =
+        rw (
+          ok,
+          le-ltb (length inputs) (c .program .inputs) l,
+          le-ltb (length inputs′) (c .program .inputs) l′,
+          exec-inputs G inputs inputs′ k same (carried budget 0 (c .instructions)) (cleared G (c .program)) b,
+        )
 
-    -- input words beyond the header's play no part
-    module _ (registers outputs : List A) (l : c .program .inputs ≤ length inputs) (l′ : c .program .inputs ≤ length inputs′) where
-      pub start-inputs : (budget : ℕ) → startOn G file inputs registers outputs budget ≡ startOn G file inputs′ registers outputs budget
-      unfolding startOn
-      start-inputs budget =
-          rw (
-            ok,
-            le-ltb (length inputs) (c .program .inputs) l,
-            le-ltb (length inputs′) (c .program .inputs) l′,
-            run-inputs 0 budget (cleared G (c .program)),
-          )
+    pub resume-waits : (position budget : ℕ) → Each (Before k) (carried budget position (c .instructions)) →
+        resumeOn G file inputs registers outputs position budget ≡ resumeOn G file inputs′ registers outputs position budget
+    unfolding resumeOn runOf
+    resume-waits position budget b =
+        rw (
+          ok,
+          le-ltb (length inputs) (c .program .inputs) l,
+          le-ltb (length inputs′) (c .program .inputs) l′,
+          exec-inputs G inputs inputs′ k same (carried budget position (c .instructions)) (lent G (c .program) registers outputs) b,
+        )
 
-      pub resume-inputs : (position budget : ℕ) →
-          resumeOn G file inputs registers outputs position budget ≡ resumeOn G file inputs′ registers outputs position budget
-      unfolding resumeOn
-      resume-inputs position budget =
-          rw (
-            ok,
-            le-ltb (length inputs) (c .program .inputs) l,
-            le-ltb (length inputs′) (c .program .inputs) l′,
-            run-inputs position budget (lent G (c .program) registers outputs),
-          )
+    -- so a start on the words that are there, resumed as it was left when the rest have come, comes to what one start on all words comes to
+    pub start-waited : (a b : ℕ) (e : Ended A) → Each (Before k) (carried a 0 (c .instructions)) → startOn G file inputs registers outputs a ≡ gives e →
+        goneOn G file inputs′ registers outputs b e ≡ startOn G file inputs′ registers outputs (together a b)
+    start-waited a b e w q = start-continued G file inputs′ registers outputs a b e (sym (start-waits a w) ∙ q)
+
+    -- and so with a resume
+    pub resume-waited : (position a b : ℕ) (e : Ended A) → Each (Before k) (carried a position (c .instructions)) →
+        resumeOn G file inputs registers outputs position a ≡ gives e →
+        goneOn G file inputs′ registers outputs b e ≡ resumeOn G file inputs′ registers outputs position (together a b)
+    resume-waited position a b e w q = resume-continued G file inputs′ registers outputs position a b e (sym (resume-waits position a w) ∙ q)
+
+  -- no instruction of an accepted program takes a word beyond the header's
+  all-before : (position budget : ℕ) → Each (Before (c .program .inputs)) (carried budget position (c .instructions))
+  all-before position budget =
+      let p : Program = c .program in
+      let left : List Instruction = drop position (c .instructions) in
+      each-take (Before (p .inputs)) (steps budget position (length (c .instructions))) left
+      (each-drop (Before (p .inputs)) position (c .instructions)
+      (each-more (Fits p) (Before (p .inputs)) (c .instructions) (λ i f. f .2) (accepted-sound file c ok .in-range)))
+
+  -- so those words play no part
+  module _ (inputs inputs′ : List A) (same : (n : ℕ) → n < c .program .inputs → getD inputs n (G .zeros) ≡ getD inputs′ n (G .zeros))
+      (registers outputs : List A) (l : c .program .inputs ≤ length inputs) (l′ : c .program .inputs ≤ length inputs′) where
+    pub start-inputs : (budget : ℕ) → startOn G file inputs registers outputs budget ≡ startOn G file inputs′ registers outputs budget
+    start-inputs budget = start-waits inputs inputs′ (c .program .inputs) same registers outputs l l′ budget (all-before 0 budget)
+
+    pub resume-inputs : (position budget : ℕ) →
+        resumeOn G file inputs registers outputs position budget ≡ resumeOn G file inputs′ registers outputs position budget
+    resume-inputs position budget =
+        resume-waits inputs inputs′ (c .program .inputs) same registers outputs l l′ position budget (all-before position budget)
 
   -- carried out whole, from whatever registers and outputs held, the program leaves the outputs of a start
   pub whole-outputs : (inputs registers outputs registers′ outputs′ : List A) (budget : ℕ) → Room (c .program) inputs registers outputs →

@@ -18,9 +18,13 @@ pub record Ended (A : Type 0) : Type 0 where
   pub answer : Run
   pub state : State A
 
--- the instructions that a run carries out: as many as the budget allows and are left
+-- how many instructions a run carries out: as many as the budget allows and are left
 abbrev pub steps : ℕ → ℕ → ℕ → ℕ
 steps budget position count = min budget (count - position)
+
+-- these instructions, from the position on
+abbrev pub carried : ℕ → ℕ → List Instruction → List Instruction
+carried budget position is = take (steps budget position (length is)) (drop position is)
 
 -- the answer: finished where no instruction is left
 abbrev pub answerOf : ℕ → ℕ → ℕ → Run
@@ -38,7 +42,7 @@ module _ {A : Type 0} (G : Gates A) where
   runOf is inputs position budget s =
       record {
         answer = answerOf budget position (length is);
-        state = exec G inputs (take (steps budget position (length is)) (drop position is)) s;
+        state = exec G inputs (carried budget position is) s;
       }
 
   -- 13: buffers shorter than the header says

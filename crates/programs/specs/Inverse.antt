@@ -11,7 +11,7 @@ use lib.Dec.{eqb, ltb}
 use lib.ListN.{length, getD, take, drop, length-append}
 use lib.Seq.{getD-drop, drop-cons}
 use Rattle.laws.specs.Outcome.{Outcome, gives, passed, bound, gives-inj, no-result}
-use Rattle.files.specs.Fields.{fieldOf}
+use Rattle.files.specs.Fields.{fieldOf, field-small}
 use Rattle.programs.specs.Limits.{within}
 use Rattle.programs.specs.Records.{recordBytes}
 use Rattle.programs.specs.Reading.{length-instruction, header-read}
@@ -154,10 +154,6 @@ low-back x y h = omega arith
 
 high-back : (x y : ℕ) → x < 256 → (x + 256 * y) / 256 ≡ y
 high-back x y h = omega arith
-
-field-small : (bytes : List ℕ) (k : ℕ) → getD bytes k 0 < 256 → getD bytes (k + 1) 0 < 256 → fieldOf bytes k < 65536
-unfolding fieldOf
-field-small bytes k a b = omega arith
 
 two-ahead : (bytes : List ℕ) (k : ℕ) → k + 2 ≤ length bytes → drop k bytes ≡ getD bytes k 0 ∷ getD bytes (k + 1) 0 ∷ drop (k + 2) bytes
 two-ahead bytes k h =

@@ -7,6 +7,7 @@ use native.Mathlib.Nat.{pow-succ'}
 use native.Mathlib.Omega.{arith}
 use lib.ListN.{length, getD, length-append, length-map}
 use Rattle.laws.specs.Tests.{same}
+use Rattle.laws.specs.Each.{Each, each-append, each-map, each-more}
 
 -- s is a string of n bits
 pub record Bits (n : ℕ) (s : List ℕ) : Type 0 where
@@ -31,11 +32,6 @@ one-if false = 0
 unfoldable pub count : {A : Type 0} → (A → Bool) → List A → ℕ
 count test xs = over xs (λ x. one-if (test x))
 
--- P of each element of a list
-abbrev pub Each : {A : Type 0} → (A → Type 0) → List A → Type 0
-Each P [] = Unit {0}
-Each P (x ∷ xs) = P x × Each P xs
-
 -- ---- sums over lists
 module _ {A : Type 0} where
   over-append : (g : A → ℕ) (xs ys : List A) → over (xs ++ ys) g ≡ over xs g + over ys g
@@ -57,18 +53,6 @@ module _ {A : Type 0} where
   unfolding over
   over-eq f g [] e = refl
   over-eq f g (x ∷ xs) e = ap₂ _+_ (e .0) (over-eq f g xs (e .1))
-
-  each-append : (P : A → Type 0) (xs ys : List A) → Each P xs → Each P ys → Each P (xs ++ ys)
-  each-append P [] ys p q = q
-  each-append P (x ∷ xs) ys p q = (p .0, each-append P xs ys (p .1) q)
-
-  each-map : {B : Type 0} (P : A → Type 0) (Q : B → Type 0) (f : A → B) (xs : List A) → ((x : A) → P x → Q (f x)) → Each P xs → Each Q (map f xs)
-  each-map P Q f [] h p = tt
-  each-map P Q f (x ∷ xs) h p = (h x (p .0), each-map P Q f xs h (p .1))
-
-  pub each-so : (P Q : A → Type 0) (xs : List A) → ((x : A) → P x → Q x) → Each P xs → Each Q xs
-  each-so P Q [] h p = tt
-  each-so P Q (x ∷ xs) h p = (h x (p .0), each-so P Q xs h (p .1))
 
 -- a sum over the strings splits by the first bit
 pub over-strings : (n : ℕ) (g : List ℕ → ℕ) → over (strings (suc n)) g ≡ over (strings n) (λ s. g (0 ∷ s)) + over (strings n) (λ s. g (1 ∷ s))
@@ -124,4 +108,4 @@ pub count-eq : (n : ℕ) (f g : List ℕ → Bool) → ((s : List ℕ) → Bits 
 unfolding count
 count-eq n f g e =
     over-eq (λ s. one-if (f s)) (λ s. one-if (g s)) (strings n)
-    (each-so (Bits n) (λ s. one-if (f s) ≡ one-if (g s)) (strings n) (λ s b. ap one-if (e s b)) (strings-bits n))
+    (each-more (Bits n) (λ s. one-if (f s) ≡ one-if (g s)) (strings n) (λ s b. ap one-if (e s b)) (strings-bits n))
