@@ -13,13 +13,14 @@ use lib.Pow.{mod-pow-add}
 use Rattle.laws.specs.Sums.{sumTo, sum-eq}
 use Rattle.laws.specs.Lay.{blocks, upto}
 use Rattle.files.specs.Matrix.{Matrix, Accepted, bit}
+use Rattle.walk.specs.Steps.{Below}
 use Rattle.walk.specs.Walk.{Place, found, left, Drawn, hit, miss, Answer, sample, missed, answerOf, drawn}
 use Rattle.machine.specs.Meaning.{bits, State, exec}
 use Rattle.compiler.specs.Translation.{rowBits, begin, end, liveBefore, column, translation, program}
 use Rattle.compiler.specs.Width.{row-lt}
 use Rattle.compiler.specs.Room.{accepted-roomy}
 use Rattle.compiler.specs.PlaceBits.{isHit, rowBit, told, answer-hit, answer-miss}
-use Rattle.compiler.specs.WalkPlaces.{Below, placeAfter, place-told, place-below}
+use Rattle.compiler.specs.WalkPlaces.{placeAfter, place-told, place-below}
 use Rattle.compiler.specs.Effects.{run, run-append, still-wide}
 use Rattle.compiler.specs.Columns.{Stands}
 use Rattle.compiler.specs.Lane.{end-hit, end-row, whole-run}

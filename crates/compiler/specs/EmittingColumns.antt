@@ -8,7 +8,7 @@ use native.Mathlib.Omega.{arith}
 use lib.Count as Count
 use lib.ListN.{length, length-append}
 use lib.Pow.{shr-shr}
-use Rattle.laws.specs.Sums.{sumTo, sum-eq, sum-more}
+use Rattle.laws.specs.Sums.{sumTo, sum-eq, sum-more, sum-front}
 use Rattle.laws.specs.Lay.{blocks, blocks-more}
 use Rattle.files.specs.Fields.{bitOf}
 use Rattle.files.specs.Matrix.{most-rows, most-columns}
@@ -60,11 +60,6 @@ pub record Marked (bits : ℕ → ℕ) (v rows instructions : ℕ) : Type 0 wher
   pub fewer : instructions ≤ v * 65
 
 -- the set bits of a number of k bits, one by one
-sum-first : (n : ℕ) (g : ℕ → ℕ) → sumTo (suc n) g ≡ g 0 + sumTo n (λ i. g (suc i))
-unfolding sumTo
-sum-first zero g = omega arith
-sum-first (suc n) g = omega (arith, sum-first n g)
-
 ones-are : (k v : ℕ) → v < 2 ^ k → ones k v ≡ Count.ones v
 unfolding ones sumTo Count.ones Count.onesIn
 ones-are zero v h =
@@ -74,7 +69,7 @@ ones-are (suc k) v h =
     let l : v / 2 < 2 ^ k = omega (arith, rw (pow-succ' 2 k) at h) in
     omega (
       arith,
-      sum-first k (λ t. v / 2 ^ t % 2),
+      sum-front k (λ t. v / 2 ^ t % 2),
       sum-eq k (λ t. v / 2 ^ suc t % 2) (λ t. v / 2 / 2 ^ t % 2) (λ t b. halved t),
       ones-are k (v / 2) l,
       Count.ones-step v,

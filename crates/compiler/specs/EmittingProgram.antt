@@ -1,6 +1,6 @@
 -- Code that compiles a matrix file: what is known of it before the first byte is written, and the ways through the checks. Assumes nothing.
 use Prim.Native.Nat.{ℕ, _+_, _-_, _*_, _≤_, _<_}
-use mathlib.Core.Path.{_≡_, refl, sym, ap, _∙_}
+use mathlib.Core.Path.{_≡_, sym, ap, _∙_}
 use mathlib.Core.Bool.{true}
 use mathlib.Core.List.{List, _++_}
 use native.Mathlib.Omega.{arith}
@@ -14,8 +14,7 @@ use Rattle.files.specs.Files.{matrixOf, unpacked}
 use Rattle.files.specs.Checks.{unpacked-bit, matrix-read, checked-whole}
 use Rattle.files.specs.RoundTrip.{read-accepted}
 use Rattle.programs.specs.Limits.{most-instructions, within}
-use Rattle.programs.specs.Records.{recordBytes}
-use Rattle.programs.specs.Reading.{Within, within-means}
+use Rattle.programs.specs.Reading.{Within, within-means, header-long}
 use Rattle.programs.specs.Header.{header-length, headerBytes, headerPlaced, codeBytes, programFile}
 use Rattle.programs.specs.declared.description.Program.{Program}
 use Rattle.programs.specs.declared.description.Instruction.{Instruction}
@@ -48,10 +47,6 @@ pub record Planned (bytes : List ℕ) (m n k count room : ℕ) : Type 0 where
   pub parts : header-length + (size (begin k) + size (blocks n (column k m (packedRows bytes (width n)))) + size (end k)) ≤ room
 
 -- ---- what the measures say
-header-long : (p : Program) → length (headerBytes p) ≡ header-length
-unfolding headerBytes recordBytes
-header-long p = refl
-
 module _ (bytes : List ℕ) (m n k count : ℕ) (packed : Packed bytes m n) (is-k : k ≡ rowBits m)
     (is-count : count ≡ length (blocks n (column (rowBits m) m (packedRows bytes (width n))))) where
   limits : within (described k m n count) ≡ true

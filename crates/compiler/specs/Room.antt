@@ -8,11 +8,11 @@ use native.Mathlib.Omega.{arith}
 use borrow.Author.Tests.{le-leb, leb-true}
 use lib.Dec.{leb}
 use Rattle.laws.specs.Tests.{both}
-use Rattle.laws.specs.Places.{row-end}
 use Rattle.files.specs.Matrix.{Matrix, Accepted, bit}
 use Rattle.files.specs.Live.{weight, total-from, live, live-is}
 use Rattle.files.specs.Checks.{total-is}
 use Rattle.compiler.specs.Translation.{liveBefore}
+use Rattle.files.specs.RoundTrip.{accepted-bits}
 
 -- what the laws of the translation need of the m rows and n columns of bits
 pub record Roomy (m n : ℕ) (bit : ℕ → ℕ → ℕ) : Type 0 where
@@ -43,15 +43,9 @@ live-room bit m (suc k) c e i a b =
     (eq-or-lt-of-le a)
 
 module _ (M : Matrix) (a : Accepted M) where
-  accepted-bits : (v c : ℕ) → v < M .rows → c < M .columns → bit M v c ≤ 1
-  unfolding bit
-  accepted-bits v c h l =
-      a .bits (v * M .columns + c)
-      (omega (arith, row-end {v = v} {m = M .rows} {size = M .rows * M .columns} (M .columns) (M .columns) h refl (omega arith)))
-
   accepted-live : live (bit M) (M .rows) 0 1 (M .columns) ≡ true
   accepted-live =
-      live-is (bit M) (M .rows) (M .columns) accepted-bits ∙
+      live-is (bit M) (M .rows) (M .columns) (accepted-bits M a) ∙
       le-leb (total-from (bit M) (M .rows) 0 (M .columns)) (2 ^ M .columns) (omega (arith, a .sum, total-is M (bit M) (λ v c h l. refl)))
 
   pub accepted-roomy : Roomy (M .rows) (M .columns) (bit M)
@@ -59,6 +53,6 @@ module _ (M : Matrix) (a : Accepted M) where
   accepted-roomy =
       record {
         some-rows = a .some-rows;
-        bits = accepted-bits;
+        bits = accepted-bits M a;
         room = λ c h. live-room (bit M) (M .rows) (M .columns) 0 accepted-live c (omega arith) (omega arith);
       }

@@ -23,9 +23,9 @@ counted : (M : Matrix) → program M .count ≡ length (translation M)
 unfolding program
 counted M = refl
 
-taken : (M : Matrix) → program M .inputs ≡ M .columns
+pub inputs-are : (M : Matrix) → program M .inputs ≡ M .columns
 unfolding program
-taken M = refl
+inputs-are M = refl
 
 module _ {A : Type 0} (G : Gates A) where
   -- a whole run of instructions
@@ -64,7 +64,7 @@ pub start-gives : (M : Matrix) → Accepted M → (inputs registers outputs : Li
     givenBy (rowBits (M .rows)) (λ o. getD (e .state .outputs) o 0) ≡ answerOf (drawn M (carried M inputs))
 start-gives M a inputs registers outputs budget ok i r o enough e q =
     let same : whole bits (translation M) inputs budget (fresh bits M) ≡ e =
-    gives-inj (sym (start-compiled bits M a inputs registers outputs budget (rw (taken M) i) r o enough) ∙ q) in
+    gives-inj (sym (start-compiled bits M a inputs registers outputs budget (rw (inputs-are M) i) r o enough) ∙ q) in
     ap (λ (x : Ended ℕ). givenBy (rowBits (M .rows)) (λ o. getD (x .state .outputs) o 0)) (sym same) ∙
     gives-walk M a inputs ok (fresh bits M) (omega (arith, length-replicate {A = ℕ} (program M .registers) 0))
     (omega (arith, length-replicate {A = ℕ} (program M .outputs) 0))

@@ -1,31 +1,12 @@
 -- The walk as the places that it comes to, column after column. Assumes nothing.
-use Prim.Native.Nat.{ℕ, zero, suc, _+_, _*_, _<_}
+use Prim.Native.Nat.{ℕ, zero, suc, _+_, _*_}
 use mathlib.Core.Path.{_≡_, _∙_}
 use native.Mathlib.Omega.{arith}
 use Rattle.laws.specs.Lay.{upto}
 use Rattle.laws.specs.From.{from, upto-from}
 use Rattle.walk.specs.Walk.{Place, found, left, answerOf, at, scan, then, walk}
+use Rattle.walk.specs.Steps.{Below, scan-below}
 use Rattle.compiler.specs.PlaceBits.{doubled, onto, told, told-none, told-column}
-
--- a row that is hit is below r
-abbrev pub Below : ℕ → Place → Type 0
-Below r (found v) = v < r
-Below r (left d) = Unit {0}
-
-below-more : (r : ℕ) (o : Place) → Below r o → Below (suc r) o
-below-more r (found v) h = omega arith
-below-more r (left d) h = tt
-
-at-below : (x r d : ℕ) (go : ℕ → Place) → ((e : ℕ) → Below r (go e)) → Below (suc r) (at x r d go)
-unfolding at
-at-below zero r d go f = below-more r (go d) (f d)
-at-below (suc x) r zero go f = omega arith
-at-below (suc x) r (suc d) go f = below-more r (go d) (f d)
-
-scan-below : (ones : ℕ → ℕ) (r d : ℕ) → Below r (scan ones r d)
-unfolding scan
-scan-below ones zero d = tt
-scan-below ones (suc r) d = at-below (ones r) r d (λ e. scan ones r e) (λ e. scan-below ones r e)
 
 module _ (bit : ℕ → ℕ → ℕ) (m : ℕ) (b : ℕ → ℕ) where
   -- after c columns, on the bits b 0, b 1, ..

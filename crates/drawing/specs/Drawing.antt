@@ -2,14 +2,13 @@
 -- outputs are read. Assumes nothing.
 use Prim.Native.Nat.{ℕ, _≤_, _<_}
 use mathlib.Core.Path.{_≡_, refl, sym, ap, _∙_, subst}
-use mathlib.Core.List.{List, _++_}
+use mathlib.Core.List.{List}
 use native.Mathlib.Omega.{arith}
 use borrow.Author.Tests.{lt-ltb, le-ltb, ltb-false}
 use lib.Dec.{ltb}
 use lib.IntN.{ℤ}
-use lib.ListN.{length, take, drop, getD, replicate, length-replicate}
-use lib.Seq.{take-at}
-use Rattle.laws.specs.Lay.{lay, length-lay, length-upto, at-front}
+use lib.ListN.{length, take, getD, replicate, length-replicate}
+use Rattle.laws.specs.Lay.{lay, length-lay, length-upto, at-front, take-lay}
 use Rattle.laws.specs.Outcome.{Outcome, refused, gives, refuse, _>>_, _>>=_, mapped, laid, passed, bound, gives-inj, mapped-gives, mapped-refused, bind-is, bind-after, then-after, laid-mapped}
 use Rattle.files.specs.Fields.{width}
 use Rattle.files.specs.Refusal.{numberOf}
@@ -18,12 +17,12 @@ use Rattle.programs.specs.Header.{headerOf}
 use Rattle.programs.specs.Reading.{Within, within-means}
 use Rattle.programs.specs.Inverse.{header-reads}
 use Rattle.programs.specs.declared.description.Program.{Program}
-use Rattle.machine.specs.Meaning.{Gates, words}
+use Rattle.machine.specs.Meaning.{Gates, words, exec-long}
 use Rattle.machine.specs.Checks.{Code, checkOf}
 use Rattle.machine.specs.Runs.{Ended, runOf, startOn, startOf}
 use Rattle.machine.specs.Checking.{check-refused, check-says}
 use Rattle.machine.specs.LaneLaw.{start-inputs, start-forgets-enough}
-use Rattle.machine.specs.Resuming.{Room, Enough, cleared, start-is, admitted-gives, exec-long}
+use Rattle.machine.specs.Resuming.{Room, Enough, cleared, start-is, admitted-gives}
 use Rattle.machine.specs.declared.runs.Run.{Run}
 use Rattle.lanes.specs.Slicing.{lanes, sliceOf, wordOf}
 use Rattle.lanes.specs.Samples.{samplesOf, signedSamplesOf}
@@ -299,10 +298,9 @@ module _ (program strings : List ℕ) (room : ℕ) where
 -- ---- a drawing as code ends it
 read-front : {A : Type 0} (read : List ℕ → Outcome A) (o : Outcome (List ℕ)) (n : ℕ) (xs outputs blank : List ℕ) → o ≡ gives xs → length xs ≡ n →
     outputs ≡ lay (laid (λ xs. xs) o) blank → (o >>= read) ≡ read (take n outputs)
-unfolding lay
 read-front read o n xs outputs blank e q l =
-    let front : outputs ≡ xs ++ drop (length xs) blank = l ∙ rw e in
-    rw (e, front, take-at xs (drop (length xs) blank) n q)
+    let front : outputs ≡ lay xs blank = l ∙ rw e in
+    rw (e, front, take-lay n xs blank q)
 
 module _ {A : Type 0} (program strings : List ℕ) (room : ℕ) (read : List ℕ → Outcome (List A)) where
   pub drawn-refused : (k : ℕ) → refused k ≡ mapped length (batchOf program strings room) → drawnWith program strings room read ≡ refused k

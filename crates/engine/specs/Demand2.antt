@@ -4,8 +4,7 @@ use Prim.Native.Nat.{ℕ, _+_, _^_, _≤_, _<_}
 use mathlib.Core.Path.{_≡_, refl, sym, _∙_}
 use mathlib.Core.List.{List}
 use lib.ListN.{length, getD, take}
-use lib.Seq.{take-at}
-use Rattle.laws.specs.Lay.{lay}
+use Rattle.laws.specs.Lay.{lay, take-lay}
 use Rattle.laws.specs.Outcome.{gives, mapped, _>>=_}
 use Rattle.files.specs.Matrix.{Matrix}
 use Rattle.files.specs.Files.{matrixOf}
@@ -20,10 +19,6 @@ use Rattle.lanes.specs.Samples.{sampleOf}
 use Rattle.compiler.specs.Translation.{program, compiled, translation, rowBits}
 use Rattle.compiler.specs.Compiled.{compiled-accepted}
 use Rattle.engine.specs.Lanewise.{laneBits, ended, start-is, long, lane-draws}
-
-front-is : (n : ℕ) (xs buf : List ℕ) → length xs ≡ n → take n (lay xs buf) ≡ xs
-unfolding lay
-front-is n xs buf e = take-at xs (lib.ListN.drop (length xs) buf) n e
 
 outputs-are : (M : Matrix) → program M .outputs ≡ 1 + rowBits (M .rows)
 unfolding program
@@ -53,7 +48,7 @@ module _ (file : List ℕ) (M : Matrix) (e : matrixOf file ≡ gives M) where
         let budget : ℕ = together b (total bs) in
         let left = ended M a inputs registers outputs budget j jl small i r o enough .state .outputs in
         let front : take (program M .outputs) (lay left outputs) ≡ left =
-        front-is (program M .outputs) left outputs (long M a inputs registers outputs budget j jl small i r o enough ∙ sym (outputs-are M)) in
+        take-lay (program M .outputs) left outputs (long M a inputs registers outputs budget j jl small i r o enough ∙ sym (outputs-are M)) in
         rw (
           start-onward words (compiled M) inputs registers outputs b bs h,
           start-is M a inputs registers outputs budget j jl small i r o enough,

@@ -1,6 +1,6 @@
 -- What `draw` gives where the program is what compile wrote for a matrix: sample j is that of the walk on string j. Assumes nothing.
 use Prim.Native.Nat.{ℕ, _≤_}
-use mathlib.Core.Path.{_≡_, refl, sym, _∙_}
+use mathlib.Core.Path.{_≡_, sym, _∙_}
 use mathlib.Core.List.{List}
 use native.Mathlib.Omega.{arith}
 use borrow.Author.Tests.{le-ltb}
@@ -18,10 +18,7 @@ use Rattle.machine.specs.Runs.{startOf}
 use Rattle.drawing.specs.Drawing.{drawnWith, drawOf, drawSignedOf}
 use Rattle.engine.specs.Demand2.{compiled-is-accepted}
 use Rattle.engine.specs.Batches.{slicedWords, drawnAt, batch-samples, batch-signed}
-
-columns-are : (M : Matrix) → program M .inputs ≡ M .columns
-unfolding program
-columns-are M = refl
+use Rattle.compiler.specs.Starting.{inputs-are}
 
 module _ (file : List ℕ) (M : Matrix) (e : matrixOf file ≡ gives M) (strings : List ℕ) (sound : stringsOf lanes (M .columns) strings ≡ gives tt) (room : ℕ)
     (space : lanes ≤ room) where
@@ -33,7 +30,7 @@ module _ (file : List ℕ) (M : Matrix) (e : matrixOf file ≡ gives M) (strings
   drawing-is read =
       rw (
         compiled-is-accepted file M e,
-        columns-are M,
+        inputs-are M,
         slice-gives (M .columns) strings (M .columns) (sym sound) (omega arith),
         le-ltb room lanes space,
       )

@@ -12,9 +12,8 @@ use Rattle.laws.specs.Words.{bitAt, pack, bitAt-lt, bitAt-zero}
 use Rattle.laws.specs.Lay.{upto, upto-eq}
 use Rattle.laws.specs.Outcome.{gives, mapped}
 use Rattle.files.specs.Matrix.{Matrix, Accepted}
-use Rattle.machine.specs.Meaning.{words, bits}
+use Rattle.machine.specs.Meaning.{words, bits, exec-long}
 use Rattle.machine.specs.Runs.{Ended, startOf, startOn}
-use Rattle.machine.specs.Resuming.{exec-long}
 use Rattle.machine.specs.LaneLaw.{lane, lane-start, mapEnded}
 use Rattle.walk.specs.Walk.{sample, missed, drawn, answerOf}
 use Rattle.lanes.specs.Slicing.{lanes}

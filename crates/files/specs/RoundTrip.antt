@@ -6,11 +6,11 @@ use mathlib.Core.List.{List, [], _∷_, _++_}
 use native.Mathlib.Omega.{arith}
 use borrow.Author.Tests.{le-ltb, eqb-false, ltb-false}
 use lib.Dec.{eqb, ltb}
-use lib.ListN.{length, getD, take, drop, length-drop, take-append-drop, List·getD-append}
-use lib.Seq.{getD-drop, getD-take, length-take-le, take-at}
+use lib.ListN.{length, getD, take, drop, length-drop, take-append-drop}
+use lib.Seq.{getD-drop, getD-take, length-take-le}
 use Rattle.laws.specs.Sums.{any, any-all, any-false}
 use Rattle.laws.specs.Digits.{number, number-shift, number-digit, digit, digit-number}
-use Rattle.laws.specs.Lay.{blocks, upto, lay, getD-blocks, length-blocks, blocks-each, getD-upto, length-upto, table-ext, take-is, length-lay}
+use Rattle.laws.specs.Lay.{blocks, upto, lay, getD-blocks, length-blocks, blocks-each, getD-upto, length-upto, table-ext, take-is, length-lay, take-lay, at-front}
 use Rattle.laws.specs.Outcome.{gives, refuse, _>>_, _>>=_, passed, bound, gives-inj}
 use Rattle.files.specs.Fields.{fieldOf, fieldBytes, width, bitOf, packedBit, bit-le, padded, padded-le, padded-below, padded-above, padded-both, packed, length-packed, spare, spare-none, spare-zero}
 use Rattle.files.specs.Matrix.{Matrix, sizes, Accepted, bit, total, outside, most-rows, most-columns}
@@ -34,6 +34,11 @@ packed-bit n f m v i ok h l =
     (digit-number (padded n (f v)) (8 * (i / 8)) 8 (i % 8) (λ j a b. padded-le n (f v) j ok) (omega arith) ∙ ap (padded n (f v)) place)
 
 -- ---- a written matrix reads as itself
+-- its entries are bits
+pub accepted-bits : (M : Matrix) → Accepted M → (v c : ℕ) → v < M .rows → c < M .columns → bit M v c ≤ 1
+unfolding bit
+accepted-bits M ok v c h l = ok .bits (v * M .columns + c) (cell v (M .rows) (M .columns) c h l)
+
 module _ (M : Matrix) (ok : Accepted M) where
   rows : List ℕ
   rows = blocks (M .rows) (λ v. packed (M .columns) (bit M v))
@@ -46,13 +51,9 @@ module _ (M : Matrix) (ok : Accepted M) where
   unfolding matrixFile headerBytes rows
   file-rest = refl
 
-  entry-le : (v c : ℕ) → v < M .rows → c < M .columns → bit M v c ≤ 1
-  unfolding bit
-  entry-le v c h l = ok .bits (v * M .columns + c) (cell v (M .rows) (M .columns) c h l)
-
   row-bit : (v i : ℕ) → v < M .rows → i < 8 * width (M .columns) → bitOf rows (v * width (M .columns)) i ≡ padded (M .columns) (bit M v) i
   unfolding rows
-  row-bit v i h l = packed-bit (M .columns) (bit M) (M .rows) v i (λ c k. entry-le v c h k) h l
+  row-bit v i h l = packed-bit (M .columns) (bit M) (M .rows) v i (λ c k. accepted-bits M ok v c h k) h l
 
   no-spare : any (M .rows) (λ v. spare rows (M .columns) (v * width (M .columns))) ≡ false
   no-spare = any-all (M .rows) (λ v. spare rows (M .columns) (v * width (M .columns))) (λ v h. one v h)
@@ -180,14 +181,8 @@ module _ (file : List ℕ) (bytes : (i : ℕ) → getD file i 0 < 256) (M : Matr
 -- ---- the operations together
 -- An accepted file, read into any buffer and written again from it, is the same bytes.
 again : (M : Matrix) (entries : List ℕ) → length (M .entries) ≡ M .rows * M .columns → taken (M .rows) (M .columns) (lay (M .entries) entries) ≡ M
-unfolding lay
 again M entries e =
-    ap (λ (l : List ℕ). record { rows = M .rows; columns = M .columns; entries = l })
-    (take-at (M .entries) (drop (length (M .entries)) entries) (M .rows * M .columns) e)
-
-getD-again : (M : Matrix) (entries : List ℕ) (i : ℕ) → i < length (M .entries) → getD (lay (M .entries) entries) i 0 ≡ getD (M .entries) i 0
-unfolding lay
-getD-again M entries i h = List·getD-append (M .entries) (drop (length (M .entries)) entries) 0 i h
+    ap (λ (l : List ℕ). record { rows = M .rows; columns = M .columns; entries = l }) (take-lay (M .rows * M .columns) (M .entries) entries e)
 
 pub read-then-write : (file entries : List ℕ) (room : ℕ) (M : Matrix) → ((i : ℕ) → getD file i 0 < 256) → readOf file (length entries) ≡ gives M →
     length file ≤ room → writeOf (M .rows) (M .columns) (lay (M .entries) entries) room ≡ gives file
@@ -204,7 +199,7 @@ read-then-write file entries room M bytes e h =
         let long : M .rows * M .columns ≤ length (lay (M .entries) entries) = rw (length-lay (M .entries) entries (omega (arith, ok .whole))) l in
         let small : any (M .rows * M .columns) (λ i. ltb 1 (getD (lay (M .entries) entries) i 0)) ≡ false =
         any-all (M .rows * M .columns) (λ i. ltb 1 (getD (lay (M .entries) entries) i 0))
-        (λ i k. le-ltb 1 (getD (lay (M .entries) entries) i 0) (rw (getD-again M entries i (omega (arith, ok .whole))) (ok .bits i k))) in
+        (λ i k. le-ltb 1 (getD (lay (M .entries) entries) i 0) (rw (at-front (M .entries) entries i 0 (omega (arith, ok .whole))) (ok .bits i k))) in
         let sum : ltb (2 ^ M .columns) (total (taken (M .rows) (M .columns) (lay (M .entries) entries))) ≡ false = rw back (le-ltb (2 ^ M .columns) (total M) (ok .sum)) in
         write-gives (M .rows) (M .columns) (lay (M .entries) entries) room (inside most-rows (M .rows) (ok .some-rows) (ok .few-rows))
         (inside most-columns (M .columns) (ok .some-columns) (ok .few-columns)) long small sum (omega (arith, matrix-read file M g .whole .long)) ∙

@@ -7,7 +7,7 @@ use native.Mathlib.Nat.{add-zero, zero-add, mul-one, eq-or-lt-of-le, le-of-suc-l
 use native.Mathlib.Numerals.{add-one}
 use native.Mathlib.Omega.{arith}
 use lib.ListN.{length, getD, set, take, drop, length-append, length-take, length-drop, List·getD-append}
-use lib.Seq.{ext-getD, getD-take, length-take-le, take-all, take-at, drop-append-add, drop-drop, set-split, getD-append-add}
+use lib.Seq.{ext-getD, getD-take, length-take-le, take-all, take-at, drop-append-add, drop-append-seam, drop-drop, set-split, getD-append-add}
 
 module _ {A : Type 0} where
   -- f 0, then f 1, .., then f (n - 1), one after another
@@ -98,6 +98,15 @@ module _ {A : Type 0} where
   pub at-front : (xs buf : List A) (i : ℕ) (d : A) → i < length xs → getD (lay xs buf) i d ≡ getD xs i d
   unfolding lay
   at-front xs buf i d h = List·getD-append xs (drop (length xs) buf) d i h
+
+  pub take-lay : (n : ℕ) (xs buf : List A) → length xs ≡ n → take n (lay xs buf) ≡ xs
+  unfolding lay
+  take-lay n xs buf e = take-at xs (drop (length xs) buf) n e
+
+  -- of two results as long as each other the later is left
+  pub lay-again : (xs ys buf : List A) → length xs ≡ length ys → lay ys (lay xs buf) ≡ lay ys buf
+  unfolding lay
+  lay-again xs ys buf e = ap (λ (l : List A). ys ++ l) (rw (← e) (drop-append-seam xs (drop (length xs) buf)))
 
   pub lay-nothing : (buf : List A) → buf ≡ lay [] buf
   unfolding lay

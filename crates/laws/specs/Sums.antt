@@ -24,6 +24,11 @@ pub sum-more : (n : ℕ) (g : ℕ → ℕ) → sumTo (n + 1) g ≡ sumTo n g + g
 unfolding sumTo
 sum-more n g = rw (add-one n) (omega arith)
 
+pub sum-front : (n : ℕ) (g : ℕ → ℕ) → sumTo (suc n) g ≡ g 0 + sumTo n (λ i. g (suc i))
+unfolding sumTo
+sum-front zero g = refl
+sum-front (suc n) g = omega (arith, sum-front n g)
+
 pub sum-plus : (n : ℕ) (g a b : ℕ → ℕ) → ((i : ℕ) → g i ≡ a i + b i) → sumTo n g ≡ sumTo n a + sumTo n b
 unfolding sumTo
 sum-plus zero g a b e = refl

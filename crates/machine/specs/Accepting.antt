@@ -16,10 +16,9 @@ use Rattle.laws.specs.Lay.{blocks}
 use Rattle.laws.specs.Outcome.{gives}
 use Rattle.laws.specs.Each.{Each, each-more}
 use Rattle.programs.specs.Limits.{within}
-use Rattle.programs.specs.Records.{recordBytes}
 use Rattle.programs.specs.Instructions.{uses, lengthOf, instructionBytes, decodeOf}
 use Rattle.programs.specs.Header.{header-length, headerBytes, codeBytes, programFile}
-use Rattle.programs.specs.Reading.{length-instruction}
+use Rattle.programs.specs.Reading.{length-instruction, header-long}
 use Rattle.programs.specs.Inverse.{decode-written, header-written}
 use Rattle.programs.specs.declared.description.Program.{Program}
 use Rattle.programs.specs.declared.description.Instruction.{Instruction}
@@ -99,10 +98,6 @@ sets-right o [] js x = x
 sets-right o (i ∷ is) js x = inr (sets-right o is js x)
 
 -- ---- the checker's tests
-header-long : (p : Program) → length (headerBytes p) ≡ header-length
-unfolding headerBytes recordBytes
-header-long p = refl
-
 every-true : (t : ℕ → Bool) (P : ℕ → Type 0) (xs : List ℕ) → ((x : ℕ) → P x → t x ≡ true) → Each P xs → every t xs ≡ true
 every-true t P [] f e = refl
 every-true t P (x ∷ xs) f e = rw (f x (e .0), every-true t P xs f (e .1))

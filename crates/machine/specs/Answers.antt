@@ -6,7 +6,7 @@ use mathlib.Core.List.{List, [], _∷_, _++_}
 use native.Mathlib.Omega.{arith}
 use borrow.Author.Tests.{le-ltb, lt-ltb, ltb-false, not-false}
 use lib.Dec.{ltb}
-use lib.ListN.{length, take, drop, replicate, length-set, length-take, length-replicate}
+use lib.ListN.{length, take, drop, replicate, length-take, length-replicate}
 use Rattle.laws.specs.Tests.{neither}
 use Rattle.laws.specs.Sums.{any}
 use Rattle.laws.specs.Lay.{lay, lay-nothing}
@@ -15,33 +15,13 @@ use Rattle.programs.specs.Instructions.{uses, lengthOf, decodeOf}
 use Rattle.programs.specs.Header.{header-length}
 use Rattle.programs.specs.declared.description.Program.{Program}
 use Rattle.programs.specs.declared.description.Instruction.{Instruction}
-use Rattle.programs.specs.declared.description.Instruction.the-variants.{Ones, Zero, Input, Not, And, Or, Output}
-use Rattle.machine.specs.Meaning.{Gates, words, State, step, exec}
+use Rattle.machine.specs.Meaning.{words, exec-long}
 use Rattle.machine.specs.Checks.{Code, every, also, inRange, instructionOf, codeOf, nothing, checkOf}
 use Rattle.machine.specs.Runs.{Ended, steps, runOf, roomFor, startOn, resumeOn, startOf, resumeOf}
 use Rattle.machine.specs.Standing.{readOf, Formed}
 use Rattle.machine.specs.Turns.{state, Ends}
 use Rattle.machine.specs.Checking.{range-means, range-wider, check-says}
 use Rattle.machine.specs.declared.runs.Run.{Run}
-
--- ---- lengths stay
-module _ {A : Type 0} (G : Gates A) (inputs : List A) where
-  step-long : (i : Instruction) (s : State A) → (length (step G inputs i s .registers) ≡ length (s .registers)) × (length (step G inputs i s .outputs) ≡ length (s .outputs))
-  step-long (Ones to) s = (simp length-set, refl)
-  step-long (Zero to) s = (simp length-set, refl)
-  step-long (Input to n) s = (simp length-set, refl)
-  step-long (Not to a) s = (simp length-set, refl)
-  step-long (And to a b) s = (simp length-set, refl)
-  step-long (Or to a b) s = (simp length-set, refl)
-  step-long (Output o a) s = (refl, simp length-set)
-
-  exec-long : (is : List Instruction) (s : State A) → (length (exec G inputs is s .registers) ≡ length (s .registers)) × (length (exec G inputs is s .outputs) ≡ length (s .outputs))
-  unfolding exec
-  exec-long [] s = (refl, refl)
-  exec-long (i ∷ is) s =
-      let h = exec-long is (step G inputs i s) in
-      let d = step-long i s in
-      (h .0 ∙ d .0, h .1 ∙ d .1)
 
 -- ---- an accepted program stands in its bytes
 pub record Reaches (p : Program) (nr ni nq : ℕ) : Type 0 where

@@ -1,8 +1,9 @@
 -- 01, "Files": what instructions do to registers and outputs. Assumes nothing.
 use Prim.Native.Nat.{ℕ, _-_, _^_, min, max}
+use mathlib.Core.Path.{_≡_, refl, _∙_}
 use mathlib.Core.List.{List, [], _∷_}
 use lib.Bits.{bitAnd, bitOr}
-use lib.ListN.{getD, set}
+use lib.ListN.{length, getD, set, length-set}
 use Rattle.programs.specs.declared.description.Instruction.{Instruction}
 use Rattle.programs.specs.declared.description.Instruction.the-variants.{Ones, Zero, Input, Not, And, Or, Output}
 
@@ -47,3 +48,23 @@ module _ {A : Type 0} (G : Gates A) (inputs : List A) where
   unfoldable pub exec : List Instruction → State A → State A
   exec [] s = s
   exec (i ∷ is) s = exec is (step i s)
+
+  -- ---- no word is added or lost
+  pub step-long : (i : Instruction) (s : State A) →
+      (length (step i s .registers) ≡ length (s .registers)) × (length (step i s .outputs) ≡ length (s .outputs))
+  step-long (Ones to) s = (length-set (s .registers) to _, refl)
+  step-long (Zero to) s = (length-set (s .registers) to _, refl)
+  step-long (Input to n) s = (length-set (s .registers) to _, refl)
+  step-long (Not to a) s = (length-set (s .registers) to _, refl)
+  step-long (And to a b) s = (length-set (s .registers) to _, refl)
+  step-long (Or to a b) s = (length-set (s .registers) to _, refl)
+  step-long (Output o a) s = (refl, length-set (s .outputs) o _)
+
+  pub exec-long : (is : List Instruction) (s : State A) →
+      (length (exec is s .registers) ≡ length (s .registers)) × (length (exec is s .outputs) ≡ length (s .outputs))
+  unfolding exec
+  exec-long [] s = (refl, refl)
+  exec-long (i ∷ is) s =
+      let l = exec-long is (step i s) in
+      let m = step-long i s in
+      (l .0 ∙ m .0, l .1 ∙ m .1)

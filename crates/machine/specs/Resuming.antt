@@ -9,15 +9,14 @@ use native.Mathlib.Nat.{zero-add}
 use native.Mathlib.Omega.{arith}
 use borrow.Author.Tests.{le-ltb, ltb-false, eqb-true, eqb-false, eq-eqb, ne-eqb}
 use lib.Dec.{ltb}
-use lib.ListN.{length, take, drop, replicate, length-set, length-replicate}
-use lib.Seq.{take-add, take-all, take-at, drop-drop, drop-append-seam, length-take-le}
-use Rattle.laws.specs.Lay.{lay, length-lay}
+use lib.ListN.{length, take, drop, replicate, length-replicate}
+use lib.Seq.{take-add, take-all, drop-drop, length-take-le}
+use Rattle.laws.specs.Lay.{lay, length-lay, take-lay, lay-again}
 use Rattle.laws.specs.Outcome.{Outcome, refused, gives, refuse, _>>_, _>>=_, mapped, laid, passed, bound, gives-inj, mapped-gives, no-result, then-gives, bind-eq, bind-after, bind-gives, mapped-bind, mapped-then, mapped-mapped}
 use Rattle.programs.specs.Reading.{within-means}
 use Rattle.programs.specs.declared.description.Program.{Program}
 use Rattle.programs.specs.declared.description.Instruction.{Instruction}
-use Rattle.programs.specs.declared.description.Instruction.the-variants.{Ones, Zero, Input, Not, And, Or, Output}
-use Rattle.machine.specs.Meaning.{Gates, State, step, exec}
+use Rattle.machine.specs.Meaning.{Gates, State, step, exec, exec-long}
 use Rattle.machine.specs.Checks.{Code, checkOf}
 use Rattle.machine.specs.Runs.{Ended, steps, answerOf, runOf, roomFor, startOn, resumeOn}
 use Rattle.machine.specs.Encoding.{accepted-sound}
@@ -130,26 +129,6 @@ module _ {A : Type 0} (G : Gates A) (inputs : List A) where
   unfolding exec
   exec-append [] js s = refl
   exec-append (i ∷ is) js s = exec-append is js (step G inputs i s)
-
-  pub step-long : (i : Instruction) (s : State A) →
-      (length (step G inputs i s .registers) ≡ length (s .registers)) × (length (step G inputs i s .outputs) ≡ length (s .outputs))
-  step-long (Ones to) s = (length-set (s .registers) to _, refl)
-  step-long (Zero to) s = (length-set (s .registers) to _, refl)
-  step-long (Input to n) s = (length-set (s .registers) to _, refl)
-  step-long (Not to a) s = (length-set (s .registers) to _, refl)
-  step-long (And to a b) s = (length-set (s .registers) to _, refl)
-  step-long (Or to a b) s = (length-set (s .registers) to _, refl)
-  step-long (Output o a) s = (refl, length-set (s .outputs) o _)
-
-  -- no word is added or lost
-  pub exec-long : (is : List Instruction) (s : State A) →
-      (length (exec G inputs is s .registers) ≡ length (s .registers)) × (length (exec G inputs is s .outputs) ≡ length (s .outputs))
-  unfolding exec
-  exec-long [] s = (refl, refl)
-  exec-long (i ∷ is) s =
-      let l = exec-long is (step G inputs i s) in
-      let m = step-long i s in
-      (l .0 ∙ m .0, l .1 ∙ m .1)
 
 -- ---- runs of a list of instructions
 steps-join : (a b position count : ℕ) → count ≤ most-budget →
@@ -334,18 +313,10 @@ module _ {A : Type 0} (G : Gates A) where
       let l = exec-long G inputs (take (steps budget position (length is)) (drop position is)) s in
       record { of-registers = l .0 ∙ z .of-registers; of-outputs = l .1 ∙ z .of-outputs }
 
-  lay-again : (xs ys buf : List A) → length xs ≡ length ys → lay ys (lay xs buf) ≡ lay ys buf
-  unfolding lay
-  lay-again xs ys buf e = ap (λ (l : List A). ys ++ l) (rw (← e) (drop-append-seam xs (drop (length xs) buf)))
-
   lent-laid : (p : Program) (s : State A) (registers outputs : List A) → Sized p s →
       lent p (lay (s .registers) registers) (lay (s .outputs) outputs) ≡ s
-  unfolding lay
   lent-laid p s registers outputs z =
-      rw (
-        take-at (s .registers) (drop (length (s .registers)) registers) (p .registers) (z .of-registers),
-        take-at (s .outputs) (drop (length (s .outputs)) outputs) (p .outputs) (z .of-outputs),
-      )
+      rw (take-lay (p .registers) (s .registers) registers (z .of-registers), take-lay (p .outputs) (s .outputs) outputs (z .of-outputs))
 
   room-laid : (p : Program) (s : State A) (inputs registers outputs : List A) → Sized p s → Room p inputs registers outputs →
       Room p inputs (lay (s .registers) registers) (lay (s .outputs) outputs)

@@ -65,6 +65,10 @@ length-instruction (And to a b) = refl
 length-instruction (Or to a b) = refl
 length-instruction (Output o a) = refl
 
+pub header-long : (p : Program) → length (headerBytes p) ≡ header-length
+unfolding headerBytes recordBytes
+header-long p = refl
+
 module _ (i : Instruction) (at : ℕ) (buf : List ℕ) where
   pub encode-no-room : length buf < at + lengthOf i → (false ≡ leb (at + lengthOf i) (length buf)) × (buf ≡ placed at (instructionBytes i) buf)
   encode-no-room h =

@@ -7,18 +7,13 @@ use native.Mathlib.Nat.{add-zero, zero-add, eq-or-lt-of-le, le-of-suc-le-suc}
 use native.Mathlib.Numerals.{add-one}
 use native.Mathlib.Omega.{arith}
 use lib.Dec.{eqb}
-use Rattle.laws.specs.Sums.{sumTo, sum-plus, sum-same}
+use Rattle.laws.specs.Sums.{sumTo, sum-plus, sum-same, sum-front}
 use Rattle.laws.specs.Digits.{number}
 use Rattle.files.specs.Live.{weight, total-from, total-step, go-on}
 use Rattle.walk.specs.Walk.{Drawn, hit, miss, Place, found, left, at, scan, then, walk, hits, misses}
 use Rattle.walk.specs.Strings.{strings, strings-many, over, over-same, over-strings, one-if}
 
--- ---- sums, from the front and in pairs
-sum-front : (n : ℕ) (g : ℕ → ℕ) → sumTo (suc n) g ≡ g 0 + sumTo n (λ i. g (suc i))
-unfolding sumTo
-sum-front zero g = refl
-sum-front (suc n) g = omega (arith, sum-front n g)
-
+-- ---- sums in pairs
 sum-pairs : (h : ℕ) (g : ℕ → ℕ) → sumTo h (λ d. g (2 * d + 0) + g (2 * d + 1)) ≡ sumTo (2 * h) g
 unfolding sumTo
 sum-pairs zero g = refl

@@ -67,7 +67,7 @@ far bit m c d (b ∷ bs) h =
     (λ e q. far bit m (suc c) e bs q)
 
 -- ---- a row that is hit is below m, and its column is one of those walked
-abbrev Below : ℕ → Place → Type 0
+abbrev pub Below : ℕ → Place → Type 0
 Below r (found row) = row < r
 Below r (left d) = Unit {0}
 
@@ -81,7 +81,7 @@ at-below zero row d go f = below-more row (go d) (f d)
 at-below (suc b) row zero go f = omega arith
 at-below (suc b) row (suc d) go f = below-more row (go d) (f d)
 
-scan-below : (column : ℕ → ℕ) (r d : ℕ) → Below r (scan column r d)
+pub scan-below : (column : ℕ → ℕ) (r d : ℕ) → Below r (scan column r d)
 unfolding scan
 scan-below column zero d = tt
 scan-below column (suc r) d = at-below (column r) r d (λ e. scan column r e) (λ e. scan-below column r e)
