@@ -23,7 +23,7 @@ use Rattle.machine.specs.Checks.{Code, checkOf}
 use Rattle.machine.specs.Runs.{Ended, steps, carried, runOf, startOn, resumeOn, startOf, resumeOf}
 use Rattle.machine.specs.Accepting.{OneOf, Fits, Ready, Sets, none, Sound}
 use Rattle.machine.specs.Encoding.{accepted-sound}
-use Rattle.machine.specs.Resuming.{Room, Enough, Sized, sized-cleared, sized-lent}
+use Rattle.machine.specs.Resuming.{Room, Enough, Holds, Sized, sized-cleared, sized-lent}
 use Rattle.machine.specs.Resuming.{cleared, lent, admitted, startRun, resumeRun, start-is, resume-is, start-whole, resume-whole}
 use Rattle.machine.specs.Resuming.{equal-lengths, both-enough, together, goneOn, start-continued, resume-continued}
 
@@ -330,13 +330,14 @@ module _ (j : ℕ) (h : j < 64) where
       )
 
 -- ---- what instructions do not see of the words that are lent
--- the instruction takes no input from number k on
-abbrev pub Before : ℕ → Instruction → Type 0
-Before k i = Each (λ n. n < k) (uses i .takes)
+-- each input that the instruction takes is one of K
+abbrev pub Takes : (ℕ → Type 0) → Instruction → Type 0
+Takes K i = Each K (uses i .takes)
 
 -- inputs that no instruction takes
-module _ {A : Type 0} (G : Gates A) (inputs inputs′ : List A) (k : ℕ) (same : (n : ℕ) → n < k → getD inputs n (G .zeros) ≡ getD inputs′ n (G .zeros)) where
-  step-inputs : (i : Instruction) (s : State A) → Before k i → step G inputs i s ≡ step G inputs′ i s
+module _ {A : Type 0} (G : Gates A) (inputs inputs′ : List A) (K : ℕ → Type 0)
+    (same : (n : ℕ) → K n → getD inputs n (G .zeros) ≡ getD inputs′ n (G .zeros)) where
+  step-inputs : (i : Instruction) (s : State A) → Takes K i → step G inputs i s ≡ step G inputs′ i s
   step-inputs (Ones to) s b = refl
   step-inputs (Zero to) s b = refl
   step-inputs (Input to n) s b = rw (same n (b .0))
@@ -345,7 +346,7 @@ module _ {A : Type 0} (G : Gates A) (inputs inputs′ : List A) (k : ℕ) (same 
   step-inputs (Or to x y) s b = refl
   step-inputs (Output o a) s b = refl
 
-  exec-inputs : (is : List Instruction) (s : State A) → Each (Before k) is → exec G inputs is s ≡ exec G inputs′ is s
+  exec-inputs : (is : List Instruction) (s : State A) → Each (Takes K) is → exec G inputs is s ≡ exec G inputs′ is s
   unfolding exec
   exec-inputs [] s b = refl
   exec-inputs (i ∷ is) s b = rw (step-inputs i s (b .0)) (exec-inputs is (step G inputs′ i s) (b .1))
@@ -444,10 +445,10 @@ module _ {A : Type 0} (G : Gates A) (p : Program) where
 
 -- ---- the same of starts and resumes of an accepted file
 module _ {A : Type 0} (G : Gates A) (file : List ℕ) (c : Code) (ok : checkOf file ≡ gives c) where
-  module _ (inputs inputs′ : List A) (k : ℕ) (same : (n : ℕ) → n < k → getD inputs n (G .zeros) ≡ getD inputs′ n (G .zeros))
+  module _ (inputs inputs′ : List A) (K : ℕ → Type 0) (same : (n : ℕ) → K n → getD inputs n (G .zeros) ≡ getD inputs′ n (G .zeros))
       (registers outputs : List A) (l : c .program .inputs ≤ length inputs) (l′ : c .program .inputs ≤ length inputs′) where
-    -- a start, and a resume, of which no instruction takes a word from number k on come to the same whatever those words are
-    pub start-waits : (budget : ℕ) → Each (Before k) (carried budget 0 (c .instructions)) →
+    -- a start, and a resume, whose instructions take inputs of K alone come to the same whatever the other words are
+    pub start-waits : (budget : ℕ) → Each (Takes K) (carried budget 0 (c .instructions)) →
         startOn G file inputs registers outputs budget ≡ startOn G file inputs′ registers outputs budget
     unfolding startOn runOf
     start-waits budget b =
@@ -455,10 +456,10 @@ module _ {A : Type 0} (G : Gates A) (file : List ℕ) (c : Code) (ok : checkOf f
           ok,
           le-ltb (length inputs) (c .program .inputs) l,
           le-ltb (length inputs′) (c .program .inputs) l′,
-          exec-inputs G inputs inputs′ k same (carried budget 0 (c .instructions)) (cleared G (c .program)) b,
+          exec-inputs G inputs inputs′ K same (carried budget 0 (c .instructions)) (cleared G (c .program)) b,
         )
 
-    pub resume-waits : (position budget : ℕ) → Each (Before k) (carried budget position (c .instructions)) →
+    pub resume-waits : (position budget : ℕ) → Each (Takes K) (carried budget position (c .instructions)) →
         resumeOn G file inputs registers outputs position budget ≡ resumeOn G file inputs′ registers outputs position budget
     unfolding resumeOn runOf
     resume-waits position budget b =
@@ -466,39 +467,46 @@ module _ {A : Type 0} (G : Gates A) (file : List ℕ) (c : Code) (ok : checkOf f
           ok,
           le-ltb (length inputs) (c .program .inputs) l,
           le-ltb (length inputs′) (c .program .inputs) l′,
-          exec-inputs G inputs inputs′ k same (carried budget position (c .instructions)) (lent G (c .program) registers outputs) b,
+          exec-inputs G inputs inputs′ K same (carried budget position (c .instructions)) (lent G (c .program) registers outputs) b,
         )
 
-    -- so a start on the words that are there, resumed as it was left when the rest have come, comes to what one start on all words comes to
-    pub start-waited : (a b : ℕ) (e : Ended A) → Each (Before k) (carried a 0 (c .instructions)) → startOn G file inputs registers outputs a ≡ gives e →
-        goneOn G file inputs′ registers outputs b e ≡ startOn G file inputs′ registers outputs (together a b)
-    start-waited a b e w q = start-continued G file inputs′ registers outputs a b e (sym (start-waits a w) ∙ q)
+    -- so where a start took words of K alone, a resume on what it left, with any other words filled in, comes to what one start on the words
+    -- as they are then comes to
+    module _ (registers′ outputs′ : List A) where
+      pub start-waited : (a b : ℕ) (e : Ended A) → Each (Takes K) (carried a 0 (c .instructions)) →
+          startOn G file inputs registers outputs a ≡ gives e → Holds (e .state) registers′ outputs′ →
+          goneOn G file inputs′ registers′ outputs′ b e ≡ startOn G file inputs′ registers outputs (together a b)
+      start-waited a b e w q = start-continued G file inputs′ registers outputs registers′ outputs′ a b e (sym (start-waits a w) ∙ q)
 
-    -- and so with a resume
-    pub resume-waited : (position a b : ℕ) (e : Ended A) → Each (Before k) (carried a position (c .instructions)) →
-        resumeOn G file inputs registers outputs position a ≡ gives e →
-        goneOn G file inputs′ registers outputs b e ≡ resumeOn G file inputs′ registers outputs position (together a b)
-    resume-waited position a b e w q = resume-continued G file inputs′ registers outputs position a b e (sym (resume-waits position a w) ∙ q)
+      -- and so with a resume
+      pub resume-waited : (position a b : ℕ) (e : Ended A) → Each (Takes K) (carried a position (c .instructions)) →
+          resumeOn G file inputs registers outputs position a ≡ gives e → Holds (e .state) registers′ outputs′ →
+          goneOn G file inputs′ registers′ outputs′ b e ≡ resumeOn G file inputs′ registers outputs position (together a b)
+      resume-waited position a b e w q =
+          resume-continued G file inputs′ registers outputs registers′ outputs′ position a b e (sym (resume-waits position a w) ∙ q)
 
-  -- no instruction of an accepted program takes a word beyond the header's
-  all-before : (position budget : ℕ) → Each (Before (c .program .inputs)) (carried budget position (c .instructions))
-  all-before position budget =
-      let p : Program = c .program in
+  -- a word that the header counts
+  abbrev Counted : ℕ → Type 0
+  Counted n = n < c .program .inputs
+
+  -- no instruction of an accepted program takes a word beyond those
+  all-counted : (position budget : ℕ) → Each (Takes Counted) (carried budget position (c .instructions))
+  all-counted position budget =
       let left : List Instruction = drop position (c .instructions) in
-      each-take (Before (p .inputs)) (steps budget position (length (c .instructions))) left
-      (each-drop (Before (p .inputs)) position (c .instructions)
-      (each-more (Fits p) (Before (p .inputs)) (c .instructions) (λ i f. f .2) (accepted-sound file c ok .in-range)))
+      each-take (Takes Counted) (steps budget position (length (c .instructions))) left
+      (each-drop (Takes Counted) position (c .instructions)
+      (each-more (Fits (c .program)) (Takes Counted) (c .instructions) (λ i f. f .2) (accepted-sound file c ok .in-range)))
 
-  -- so those words play no part
+  -- so the words beyond play no part
   module _ (inputs inputs′ : List A) (same : (n : ℕ) → n < c .program .inputs → getD inputs n (G .zeros) ≡ getD inputs′ n (G .zeros))
       (registers outputs : List A) (l : c .program .inputs ≤ length inputs) (l′ : c .program .inputs ≤ length inputs′) where
     pub start-inputs : (budget : ℕ) → startOn G file inputs registers outputs budget ≡ startOn G file inputs′ registers outputs budget
-    start-inputs budget = start-waits inputs inputs′ (c .program .inputs) same registers outputs l l′ budget (all-before 0 budget)
+    start-inputs budget = start-waits inputs inputs′ Counted same registers outputs l l′ budget (all-counted 0 budget)
 
     pub resume-inputs : (position budget : ℕ) →
         resumeOn G file inputs registers outputs position budget ≡ resumeOn G file inputs′ registers outputs position budget
     resume-inputs position budget =
-        resume-waits inputs inputs′ (c .program .inputs) same registers outputs l l′ position budget (all-before position budget)
+        resume-waits inputs inputs′ Counted same registers outputs l l′ position budget (all-counted position budget)
 
   -- carried out whole, from whatever registers and outputs held, the program leaves the outputs of a start
   pub whole-outputs : (inputs registers outputs registers′ outputs′ : List A) (budget : ℕ) → Room (c .program) inputs registers outputs →

@@ -1,7 +1,7 @@
 -- 01, "Runs, words, samples": a stop resumed as it was left ends as the unbroken run, after any number of stops; a run's numbers depend on no
 -- word; when a run stops. Assumes nothing.
 use Prim.Native.Nat.{ℕ, _+_, _-_, _^_, _≤_, _<_, min}
-use mathlib.Core.Path.{_≡_, refl, sym, ap, _∙_}
+use mathlib.Core.Path.{_≡_, refl, sym, ap, _∙_, subst}
 use mathlib.Core.Bool.{true, false}
 use mathlib.Core.List.{List, [], _∷_, _++_}
 use mathlib.Core.Logic.{_↔_}
@@ -9,7 +9,7 @@ use native.Mathlib.Nat.{zero-add}
 use native.Mathlib.Omega.{arith}
 use borrow.Author.Tests.{le-ltb, ltb-false, eqb-true, eqb-false, eq-eqb, ne-eqb}
 use lib.Dec.{ltb}
-use lib.ListN.{length, take, drop, replicate, length-replicate}
+use lib.ListN.{length, take, drop, replicate, length-replicate, length-take, length-drop}
 use lib.Seq.{take-add, take-all, drop-drop, length-take-le}
 use Rattle.laws.specs.Lay.{lay, length-lay, take-lay, lay-again}
 use Rattle.laws.specs.Outcome.{Outcome, refused, gives, refuse, _>>_, _>>=_, mapped, laid, passed, bound, gives-inj, mapped-gives, no-result, then-gives, bind-eq, bind-after, bind-gives, mapped-bind, mapped-then, mapped-mapped}
@@ -18,7 +18,7 @@ use Rattle.programs.specs.declared.description.Program.{Program}
 use Rattle.programs.specs.declared.description.Instruction.{Instruction}
 use Rattle.machine.specs.Meaning.{Gates, State, step, exec, exec-long}
 use Rattle.machine.specs.Checks.{Code, checkOf}
-use Rattle.machine.specs.Runs.{Ended, steps, answerOf, runOf, roomFor, startOn, resumeOn}
+use Rattle.machine.specs.Runs.{Ended, steps, carried, answerOf, runOf, roomFor, startOn, resumeOn}
 use Rattle.machine.specs.Encoding.{accepted-sound}
 use Rattle.machine.specs.declared.runs.Run.{Run}
 
@@ -93,6 +93,11 @@ pub record Room {A : Type 0} (p : Program) (inputs registers outputs : List A) :
 abbrev pub Enough : {A : Type 0} → List ℕ → List A → List A → List A → Type 0
 Enough file inputs registers outputs = (c : Code) → checkOf file ≡ gives c → Room (c .program) inputs registers outputs
 
+-- buffers that hold a state's registers and outputs at their front
+pub record Holds {A : Type 0} (s : State A) (registers outputs : List A) : Type 0 where
+  pub in-registers : take (length (s .registers)) registers ≡ s .registers
+  pub in-outputs : take (length (s .outputs)) outputs ≡ s .outputs
+
 -- 01's rules for the answer of a run from a position on, in a program of so many instructions
 pub record Obeys (position budget count : ℕ) (r : Run) : Type 0 where
   pub own-budget : r .budget ≡ budget
@@ -105,10 +110,10 @@ pub record Obeys (position budget count : ℕ) (r : Run) : Type 0 where
 
 -- ---- outcomes
 -- what holds of each admitted program, held of the outcome
-carry : {B C : Type 0} (f g : C → B) (k : B → Outcome B) (o : Outcome C) → ((c : C) → o ≡ gives c → k (f c) ≡ gives (g c)) → (e : B) →
-    mapped f o ≡ gives e → k e ≡ mapped g o
-carry f g k (refused n) h e q = no-result n e q
-carry f g k (gives c) h e q = rw (← gives-inj q) (h c refl)
+carry : {B C : Type 0} (P : B → Type 0) (f g : C → B) (k : B → Outcome B) (o : Outcome C) →
+    ((c : C) → o ≡ gives c → P (f c) → k (f c) ≡ gives (g c)) → (e : B) → mapped f o ≡ gives e → P e → k e ≡ mapped g o
+carry P f g k (refused n) h e q p = no-result n e q
+carry P f g k (gives c) h e q p = rw (← gives-inj q) (h c refl (subst P (sym (gives-inj q)) p))
 
 carry-all : {A B C : Type 0} (f g : C → B) (l : B → A) (k : A → Outcome A) (o : Outcome C) →
     ((c : C) → o ≡ gives c → k (l (f c)) ≡ gives (l (g c))) → (mapped l (mapped f o) >>= k) ≡ mapped l (mapped g o)
@@ -131,6 +136,11 @@ module _ {A : Type 0} (G : Gates A) (inputs : List A) where
   exec-append (i ∷ is) js s = exec-append is js (step G inputs i s)
 
 -- ---- runs of a list of instructions
+-- a run carries out exactly as many instructions as its answer counts
+pub carried-many : (budget position : ℕ) (is : List Instruction) → length (carried budget position is) ≡ answerOf budget position (length is) .count
+carried-many budget position is =
+    omega (arith, length-take (steps budget position (length is)) (drop position is), length-drop position is)
+
 steps-join : (a b position count : ℕ) → count ≤ most-budget →
     steps a position count + steps b (position + steps a position count) count ≡ steps (together a b) position count
 steps-join a b position count h = omega arith
@@ -313,33 +323,56 @@ module _ {A : Type 0} (G : Gates A) where
       let l = exec-long G inputs (take (steps budget position (length is)) (drop position is)) s in
       record { of-registers = l .0 ∙ z .of-registers; of-outputs = l .1 ∙ z .of-outputs }
 
-  lent-laid : (p : Program) (s : State A) (registers outputs : List A) → Sized p s →
-      lent p (lay (s .registers) registers) (lay (s .outputs) outputs) ≡ s
-  lent-laid p s registers outputs z =
-      rw (take-lay (p .registers) (s .registers) registers (z .of-registers), take-lay (p .outputs) (s .outputs) outputs (z .of-outputs))
-
-  room-laid : (p : Program) (s : State A) (inputs registers outputs : List A) → Sized p s → Room p inputs registers outputs →
-      Room p inputs (lay (s .registers) registers) (lay (s .outputs) outputs)
-  room-laid p s inputs registers outputs z r =
+  -- a run's state lies at the front of what was lent
+  pub holds-laid : (s : State A) (registers outputs : List A) → Holds s (lay (s .registers) registers) (lay (s .outputs) outputs)
+  holds-laid s registers outputs =
       record {
-        for-inputs = r .for-inputs;
-        for-registers = omega (arith, length-lay (s .registers) registers (omega (arith, z .of-registers, r .for-registers)), r .for-registers);
-        for-outputs = omega (arith, length-lay (s .outputs) outputs (omega (arith, z .of-outputs, r .for-outputs)), r .for-outputs);
+        in-registers = take-lay (length (s .registers)) (s .registers) registers refl;
+        in-outputs = take-lay (length (s .outputs)) (s .outputs) outputs refl;
+      }
+
+  lent-held : (p : Program) (s : State A) (registers outputs : List A) → Sized p s → Holds s registers outputs → lent p registers outputs ≡ s
+  lent-held p s registers outputs z h = rw (← z .of-registers, ← z .of-outputs, h .in-registers, h .in-outputs)
+
+  front-long : (xs buf : List A) → take (length xs) buf ≡ xs → length xs ≤ length buf
+  front-long xs buf e = omega (arith, length-take (length xs) buf, ap length e)
+
+  room-held : (p : Program) (s : State A) (inputs registers outputs : List A) → p .inputs ≤ length inputs → Sized p s →
+      Holds s registers outputs → Room p inputs registers outputs
+  room-held p s inputs registers outputs i z h =
+      record {
+        for-inputs = i;
+        for-registers = omega (arith, front-long (s .registers) registers (h .in-registers), z .of-registers);
+        for-outputs = omega (arith, front-long (s .outputs) outputs (h .in-outputs), z .of-outputs);
       }
 
   module _ (file : List ℕ) (inputs registers outputs : List A) (c : Code) (ok : checkOf file ≡ gives c)
       (room : Room (c .program) inputs registers outputs) where
-    -- a resume on the words that a state left in lent buffers runs on from that state
-    resume-left : (s : State A) (position budget : ℕ) → Sized (c .program) s → position ≤ length (c .instructions) →
-        resumeOn G file inputs (lay (s .registers) registers) (lay (s .outputs) outputs) position budget ≡
-        gives (runOf G (c .instructions) inputs position budget s)
-    resume-left s position budget z h =
-        let rs : List A = lay (s .registers) registers in
-        let os : List A = lay (s .outputs) outputs in
-        let here : admitted file inputs rs os position ≡ gives c =
-        admitted-gives file inputs rs os position c
-        (record { accepted = ok; before-end = h; room = room-laid (c .program) s inputs registers outputs z room }) in
-        resume-is file inputs rs os position budget ∙ rw (here, lent-laid (c .program) s registers outputs z)
+    -- of registers and outputs a resume sees those at the front, as many as the header counts
+    pub resume-front : (registers′ outputs′ : List A) → Room (c .program) inputs registers′ outputs′ →
+        take (c .program .registers) registers ≡ take (c .program .registers) registers′ →
+        take (c .program .outputs) outputs ≡ take (c .program .outputs) outputs′ →
+        (position budget : ℕ) →
+        resumeOn G file inputs registers outputs position budget ≡ resumeOn G file inputs registers′ outputs′ position budget
+    unfolding resumeOn
+    resume-front registers′ outputs′ room′ r o position budget =
+        rw (
+          ok,
+          room-gives G (c .program) inputs registers outputs room,
+          room-gives G (c .program) inputs registers′ outputs′ room′,
+          r,
+          o,
+        )
+
+    -- a resume on buffers that hold a state runs on from that state
+    resume-held : (s : State A) (registers′ outputs′ : List A) (position budget : ℕ) → Sized (c .program) s → Holds s registers′ outputs′ →
+        position ≤ length (c .instructions) →
+        resumeOn G file inputs registers′ outputs′ position budget ≡ gives (runOf G (c .instructions) inputs position budget s)
+    resume-held s registers′ outputs′ position budget z h l =
+        let here : admitted file inputs registers′ outputs′ position ≡ gives c =
+        admitted-gives file inputs registers′ outputs′ position c
+        (record { accepted = ok; before-end = l; room = room-held (c .program) s inputs registers′ outputs′ (room .for-inputs) z h }) in
+        resume-is file inputs registers′ outputs′ position budget ∙ rw (here, lent-held (c .program) s registers′ outputs′ z h)
 
     module _ (s : State A) (sized : Sized (c .program) s) (position : ℕ) (h : position ≤ length (c .instructions)) (a b : ℕ) where
       abbrev first : Ended A
@@ -360,40 +393,46 @@ module _ {A : Type 0} (G : Gates A) where
       sized-second : Sized (c .program) (second .state)
       sized-second = sized-run (c .program) (c .instructions) inputs (first .answer .position) b (first .state) sized-first
 
-      runs-on : resumeOn G file inputs (lay (first .state .registers) registers) (lay (first .state .outputs) outputs) (first .answer .position) b ≡
-          gives second
-      runs-on =
-          resume-left (first .state) (first .answer .position) b sized-first
+      runs-on : (registers′ outputs′ : List A) → Holds (first .state) registers′ outputs′ →
+          resumeOn G file inputs registers′ outputs′ (first .answer .position) b ≡ gives second
+      runs-on registers′ outputs′ held =
+          resume-held (first .state) registers′ outputs′ (first .answer .position) b sized-first held
           (run-before-end G (c .instructions) inputs position a s h)
 
-      left-continued : mapped (continued first)
-          (resumeOn G file inputs (lay (first .state .registers) registers) (lay (first .state .outputs) outputs) (first .answer .position) b) ≡
-          gives whole
-      left-continued = rw runs-on (ap gives one-run)
+      held-continued : (registers′ outputs′ : List A) → Holds (first .state) registers′ outputs′ →
+          mapped (continued first) (resumeOn G file inputs registers′ outputs′ (first .answer .position) b) ≡ gives whole
+      held-continued registers′ outputs′ held = rw (runs-on registers′ outputs′ held) (ap gives one-run)
 
       left-again : again G file inputs (leaves registers outputs first) b ≡ gives (leaves registers outputs whole)
       left-again =
           let x = sized-first in
           let y = sized-second in
           rw (
-            runs-on,
+            runs-on (lay (first .state .registers) registers) (lay (first .state .outputs) outputs) (holds-laid (first .state) registers outputs),
             ← one-run,
             lay-again (first .state .registers) (second .state .registers) registers (x .of-registers ∙ sym (y .of-registers)),
             lay-again (first .state .outputs) (second .state .outputs) outputs (x .of-outputs ∙ sym (y .of-outputs)),
           )
 
 -- ---- a stop resumed as it was left
-module _ {A : Type 0} (G : Gates A) (file : List ℕ) (inputs registers outputs : List A) where
-  -- what a resume as e left it comes to, the two taken as one run
-  abbrev pub goneOn : ℕ → Ended A → Outcome (Ended A)
-  goneOn b e =
-      mapped (continued e)
-      (resumeOn G file inputs (lay (e .state .registers) registers) (lay (e .state .outputs) outputs) (e .answer .position) b)
+module _ {A : Type 0} (G : Gates A) (file : List ℕ) (inputs : List A) where
+  -- what a resume at the position that e left comes to, on these registers and outputs, the two taken as one run
+  abbrev pub goneOn : List A → List A → ℕ → Ended A → Outcome (Ended A)
+  goneOn registers outputs b e = mapped (continued e) (resumeOn G file inputs registers outputs (e .answer .position) b)
 
-  -- both of a run's result and of all that the caller holds
+  -- one resume after another from where a call ended, each on buffers that hold what the call before left, and what they come to with that
+  -- call, taken as one run
+  pub data Chain : Ended A → List ℕ → Ended A → Type 0 where
+    here : {e : Ended A} → Chain e [] e
+    next : {e f : Ended A} {b : ℕ} {bs : List ℕ} (registers outputs : List A) (m : Ended A) → Holds (e .state) registers outputs →
+        goneOn registers outputs b e ≡ gives m → Chain m bs f → Chain e (b ∷ bs) f
+
+module _ {A : Type 0} (G : Gates A) (file : List ℕ) (inputs registers outputs : List A) where
+  -- both of a run's result, on any buffers that hold what e left, and of all that the caller holds
   GoesOn : Ended A → Ended A → ℕ → Type 0
   GoesOn e whole b =
-      (goneOn b e ≡ gives whole) × (again G file inputs (leaves registers outputs e) b ≡ gives (leaves registers outputs whole))
+      ((registers′ outputs′ : List A) → Holds (e .state) registers′ outputs′ → goneOn G file inputs registers′ outputs′ b e ≡ gives whole) ×
+      (again G file inputs (leaves registers outputs e) b ≡ gives (leaves registers outputs whole))
 
   start-goes-on : (a b : ℕ) (c : Code) → admitted G file inputs registers outputs 0 ≡ gives c →
       GoesOn (startRun G file inputs registers outputs a c) (startRun G file inputs registers outputs (together a b) c) b
@@ -401,7 +440,7 @@ module _ {A : Type 0} (G : Gates A) (file : List ℕ) (inputs registers outputs 
   start-goes-on a b c q =
       let w = admitted-says G file inputs registers outputs 0 c q in
       let z : Sized (c .program) (cleared G (c .program)) = sized-cleared G (c .program) in (
-        left-continued G file inputs registers outputs c (w .accepted) (w .room) (cleared G (c .program)) z 0 (w .before-end) a b,
+        held-continued G file inputs registers outputs c (w .accepted) (w .room) (cleared G (c .program)) z 0 (w .before-end) a b,
         left-again G file inputs registers outputs c (w .accepted) (w .room) (cleared G (c .program)) z 0 (w .before-end) a b,
       )
 
@@ -412,30 +451,34 @@ module _ {A : Type 0} (G : Gates A) (file : List ℕ) (inputs registers outputs 
       let w = admitted-says G file inputs registers outputs position c q in
       let s : State A = lent G (c .program) registers outputs in
       let z : Sized (c .program) s = sized-lent G (c .program) inputs registers outputs (w .room) in (
-        left-continued G file inputs registers outputs c (w .accepted) (w .room) s z position (w .before-end) a b,
+        held-continued G file inputs registers outputs c (w .accepted) (w .room) s z position (w .before-end) a b,
         left-again G file inputs registers outputs c (w .accepted) (w .room) s z position (w .before-end) a b,
       )
 
-  -- a start that gave e, resumed as it was left, comes to what a start on both budgets together comes to: it ends there, with those registers
-  -- and outputs, and the counts add up to its count
-  pub start-continued : (a b : ℕ) (e : Ended A) → startOn G file inputs registers outputs a ≡ gives e →
-      goneOn b e ≡ startOn G file inputs registers outputs (together a b)
-  unfolding GoesOn
-  start-continued a b e q =
-      rw (start-is G file inputs registers outputs (together a b))
-      (carry (startRun G file inputs registers outputs a) (startRun G file inputs registers outputs (together a b)) (goneOn b)
-      (admitted G file inputs registers outputs 0) (λ c q. start-goes-on a b c q .0) e
-      (sym (start-is G file inputs registers outputs a) ∙ q))
+  -- a start that gave e, resumed on any buffers that hold the registers and outputs that it left, comes to what a start on both budgets together
+  -- comes to: it ends there, with those registers and outputs, and the counts add up to its count
+  module _ (registers′ outputs′ : List A) where
+    pub start-continued : (a b : ℕ) (e : Ended A) → startOn G file inputs registers outputs a ≡ gives e → Holds (e .state) registers′ outputs′ →
+        goneOn G file inputs registers′ outputs′ b e ≡ startOn G file inputs registers outputs (together a b)
+    unfolding GoesOn
+    start-continued a b e q held =
+        rw (start-is G file inputs registers outputs (together a b))
+        (carry (λ e. Holds (e .state) registers′ outputs′) (startRun G file inputs registers outputs a)
+        (startRun G file inputs registers outputs (together a b)) (goneOn G file inputs registers′ outputs′ b)
+        (admitted G file inputs registers outputs 0) (λ c q. start-goes-on a b c q .0 registers′ outputs′) e
+        (sym (start-is G file inputs registers outputs a) ∙ q) held)
 
-  -- and so with a resume
-  pub resume-continued : (position a b : ℕ) (e : Ended A) → resumeOn G file inputs registers outputs position a ≡ gives e →
-      goneOn b e ≡ resumeOn G file inputs registers outputs position (together a b)
-  unfolding GoesOn
-  resume-continued position a b e q =
-      rw (resume-is G file inputs registers outputs position (together a b))
-      (carry (resumeRun G file inputs registers outputs position a) (resumeRun G file inputs registers outputs position (together a b)) (goneOn b)
-      (admitted G file inputs registers outputs position) (λ c q. resume-goes-on position a b c q .0) e
-      (sym (resume-is G file inputs registers outputs position a) ∙ q))
+    -- and so with a resume
+    pub resume-continued : (position a b : ℕ) (e : Ended A) → resumeOn G file inputs registers outputs position a ≡ gives e →
+        Holds (e .state) registers′ outputs′ →
+        goneOn G file inputs registers′ outputs′ b e ≡ resumeOn G file inputs registers outputs position (together a b)
+    unfolding GoesOn
+    resume-continued position a b e q held =
+        rw (resume-is G file inputs registers outputs position (together a b))
+        (carry (λ e. Holds (e .state) registers′ outputs′) (resumeRun G file inputs registers outputs position a)
+        (resumeRun G file inputs registers outputs position (together a b)) (goneOn G file inputs registers′ outputs′ b)
+        (admitted G file inputs registers outputs position) (λ c q. resume-goes-on position a b c q .0 registers′ outputs′) e
+        (sym (resume-is G file inputs registers outputs position a) ∙ q) held)
 
   -- the same of all that the caller holds after the two calls, and of refusals
   pub start-again : (a b : ℕ) →
@@ -482,6 +525,27 @@ module _ {A : Type 0} (G : Gates A) (file : List ℕ) (inputs registers outputs 
   resume-onward position b (x ∷ xs) h =
       bind-after (resumed G file inputs registers outputs position b) (λ l. again G file inputs l x) (λ m. onward G file inputs m xs) _ (λ l. refl) ∙
       rw (resume-again position b x, ← together-total b x (total xs)) (resume-onward position (together b x) xs (omega arith))
+
+  -- the same with what each call left put back elsewhere: what a start and a chain of resumes come to is what one start comes to
+  pub start-chain : (b : ℕ) (bs : List ℕ) (e f : Ended A) → b < 2 ^ 32 → startOn G file inputs registers outputs b ≡ gives e →
+      Chain G file inputs e bs f → startOn G file inputs registers outputs (together b (total bs)) ≡ gives f
+  unfolding total
+  start-chain b [] e f h q here =
+      let same : together b 0 ≡ b = omega arith in
+      rw same q
+  start-chain b (x ∷ xs) e f h q (next registers′ outputs′ m held g c) =
+      rw (← together-total b x (total xs))
+      (start-chain (together b x) xs m f (omega arith) (sym (start-continued registers′ outputs′ b x e q held) ∙ g) c)
+
+  pub resume-chain : (position b : ℕ) (bs : List ℕ) (e f : Ended A) → b < 2 ^ 32 → resumeOn G file inputs registers outputs position b ≡ gives e →
+      Chain G file inputs e bs f → resumeOn G file inputs registers outputs position (together b (total bs)) ≡ gives f
+  unfolding total
+  resume-chain position b [] e f h q here =
+      let same : together b 0 ≡ b = omega arith in
+      rw same q
+  resume-chain position b (x ∷ xs) e f h q (next registers′ outputs′ m held g c) =
+      rw (← together-total b x (total xs))
+      (resume-chain position (together b x) xs m f (omega arith) (sym (resume-continued registers′ outputs′ position b x e q held) ∙ g) c)
 
   -- so with budgets for all instructions, in however many calls, an accepted program is carried out whole
   pub onward-whole : (b : ℕ) (bs : List ℕ) (c : Code) → checkOf file ≡ gives c → Room (c .program) inputs registers outputs → b < 2 ^ 32 →
