@@ -5,14 +5,14 @@ use mathlib.Core.Path.{_≡_, refl, sym, _∙_}
 use mathlib.Core.List.{List}
 use lib.ListN.{length, getD, take}
 use Rattle.laws.specs.Lay.{lay, take-lay}
-use Rattle.laws.specs.Outcome.{gives, mapped, _>>=_}
+use Rattle.laws.specs.Outcome.{gives, mapped, _>>=_, gives-inj}
 use Rattle.files.specs.Matrix.{Matrix}
 use Rattle.files.specs.Files.{matrixOf}
 use Rattle.files.specs.RoundTrip.{read-accepted}
 use Rattle.machine.specs.Meaning.{words}
 use Rattle.machine.specs.Checks.{checkOf}
-use Rattle.machine.specs.Runs.{startOf}
-use Rattle.machine.specs.Resuming.{started, onward, start-onward, together, total}
+use Rattle.machine.specs.Runs.{Ended, startOf}
+use Rattle.machine.specs.Resuming.{started, onward, start-onward, Chain, start-chain, together, total}
 use Rattle.walk.specs.Walk.{drawn, answerOf}
 use Rattle.lanes.specs.Slicing.{lanes}
 use Rattle.lanes.specs.Samples.{sampleOf}
@@ -55,3 +55,11 @@ module _ (file : List ℕ) (M : Matrix) (e : matrixOf file ≡ gives M) where
           front,
         )
         (rw (start-is M a inputs registers outputs budget j jl small i r o enough) at (demand-2 budget j enough jl))
+
+    -- and where registers and outputs that a stop left are put back at the front of other buffers: what the last call leaves
+    pub demand-2-moved : (b : ℕ) (bs : List ℕ) (first last : Ended ℕ) (j : ℕ) → b < 2 ^ 32 → program M .count ≤ together b (total bs) → j < lanes →
+        startOf (compiled M) inputs registers outputs b ≡ gives first → Chain words (compiled M) inputs first bs last →
+        sampleOf (last .state .outputs) j ≡ answerOf (drawn M (laneBits (M .columns) inputs j))
+    demand-2-moved b bs first last j h enough jl q c =
+        gives-inj
+        (rw (start-chain words (compiled M) inputs registers outputs b bs first last h q c) at (demand-2 (together b (total bs)) j enough jl))
