@@ -20,7 +20,7 @@ use Rattle.machine.specs.Checks.{Code, every, also, inRange, instruction
 use Rattle.machine.specs.Runs.{Ended, steps, runOf, roomFor, startOn, resumeOn, startOf, resumeOf}
 use Rattle.machine.specs.Standing.{readOf, Formed}
 use Rattle.machine.specs.Turns.{state, Ends}
-use Rattle.machine.specs.Checking.{range-means, range-wider, check-says}
+use Rattle.machine.specs.Checking.{range-means, range-wider, instruction-means, check-says}
 use Rattle.machine.specs.declared.runs.Run.{Run}
 
 -- ---- an accepted program stands in its bytes
@@ -28,16 +28,6 @@ pub record Reaches (p : Program) (nr ni nq : ℕ) : Type 0 where
   pub registers : p .registers ≤ nr
   pub inputs : p .inputs ≤ ni
   pub outputs : p .outputs ≤ nq
-
-instruction-means : (p : Program) (written : ℕ → Bool) (bytes : List ℕ) (i : Instruction) → instructionOf p written bytes ≡ gives i →
-    (decodeOf bytes ≡ gives i) × (inRange p i ≡ true)
-unfolding instructionOf
-instruction-means p written bytes i e =
-    let c1 = bound (decodeOf bytes) (λ j. refuse 8 (not (inRange p j)) >> (refuse 9 (not (every written (uses j .reads))) >> gives j)) i e in
-    let c2 = passed 8 (not (inRange p (c1 .0))) (refuse 9 (not (every written (uses (c1 .0) .reads))) >> gives (c1 .0)) i (c1 .2) in
-    let c3 = passed 9 (not (every written (uses (c1 .0) .reads))) (gives (c1 .0)) i (c2 .1) in
-    let q : c1 .0 ≡ i = gives-inj (c3 .1) in
-    (c1 .1 ∙ ap gives q, ap (inRange p) (sym q) ∙ not-false (inRange p (c1 .0)) (c2 .0))
 
 module _ (p : Program) (nr ni nq : ℕ) (r : Reaches p nr ni nq) where
   code-stands : (n : ℕ) (written set : ℕ → Bool) (bytes : List ℕ) (is : List Instruction) → codeOf n p written set bytes ≡ gives is →

@@ -7,17 +7,16 @@ use mathlib.Core.Logic.{⊎-elim}
 use native.Mathlib.Decide.{ℕ-discrete}
 use native.Mathlib.Nat.{eq-or-lt-of-le}
 use native.Mathlib.Omega.{arith}
-use borrow.Author.Tests.{lt-ltb, le-ltb, ltb-true, eq-eqb, ne-eqb}
+use borrow.Author.Tests.{lt-ltb, le-ltb, ltb-true, eq-eqb, ne-eqb, not-false}
 use lib.Dec.{ltb, eqb}
 use lib.ListN.{length, getD, set, drop, length-drop, length-set, replicate, length-replicate}
 use lib.Seq.{drop-drop, getD-set-same, getD-set-other}
 use Rattle.laws.specs.Tests.{both}
 use Rattle.laws.specs.Sums.{any}
-use Rattle.laws.specs.Outcome.{Outcome, refused, gives, _>>_, _>>=_, mapped, bound, gives-inj}
+use Rattle.laws.specs.Outcome.{Outcome, refused, gives, refuse, _>>_, _>>=_, mapped, passed, bound, gives-inj}
 use Rattle.files.specs.Fields.{fieldOf}
-use Rattle.files.specs.Refusal.{numberOf}
 use Rattle.programs.specs.Limits.{most-registers, most-inputs, most-outputs, within, unwritten, unset}
-use Rattle.programs.specs.Instructions.{uses, lengthOf, ofKind, sizedOf, decodeAt}
+use Rattle.programs.specs.Instructions.{uses, lengthOf, ofKind, sizedOf, decodeOf, decodeAt}
 use Rattle.programs.specs.Header.{header-length, headerOf}
 use Rattle.programs.specs.Reading.{within-means, decode-as}
 use Rattle.programs.specs.Inverse.{field-drop, length-some, header-reads}
@@ -26,8 +25,6 @@ use Rattle.programs.specs.declared.description.Instruction.{Instruction}
 use Rattle.programs.specs.declared.description.Instruction.the-variants.{Ones, Zero, Input, Not, And, Or, Output}
 use Rattle.machine.specs.Checks.{Code, every, also, inRange, instructionOf, codeOf, nothing, checkOf}
 use Rattle.machine.specs.Standing.{InRange, reads-stands}
-use Rattle.machine.specs.declared.checking.Admitted.{Admitted}
-use Rattle.machine.specs.declared.checking.Admitted.the-variants as Admitted
 
 -- what flags say
 unfoldable pub flagged : List Bool → ℕ → Bool
@@ -100,17 +97,16 @@ range-wider nr ni nq mr mi mq (And to x y) a b c r = (omega (arith, r .0), omega
 range-wider nr ni nq mr mi mq (Or to x y) a b c r = (omega (arith, r .0), omega (arith, r .1), omega (arith, r .2))
 range-wider nr ni nq mr mi mq (Output o x) a b c r = (omega (arith, r .0), omega (arith, r .1))
 
-range-limits : (p : Program) (i : Instruction) → within p ≡ true → inRange p i ≡ true → InRange most-registers most-inputs most-outputs i
+pub range-limits : (p : Program) (i : Instruction) → within p ≡ true → inRange p i ≡ true → InRange most-registers most-inputs most-outputs i
 range-limits p i w e =
     let l = within-means p w in
     range-wider _ _ _ _ _ _ i (l .few-registers) (l .few-inputs) (l .few-outputs) (range-means p i e)
 
 -- ---- marks
-pub record Marks (i : Instruction) (w s w′ s′ : List Bool) : Type 0 where
-  pub written : flagged w′ ≡ also (flagged w) (uses i .writes)
-  pub outputs : flagged s′ ≡ also (flagged s) (uses i .sets)
+-- flags after those of a list were set
+pub record Flags (xs : List ℕ) (w w′ : List Bool) : Type 0 where
+  pub told : flagged w′ ≡ also (flagged w) xs
   pub long : length w′ ≡ length w
-  pub wide : length s′ ≡ length s
 
 flag-set : (w : List Bool) (to : ℕ) → to < length w → flagged (set w to true) ≡ also (flagged w) (to ∷ [])
 unfolding flagged also
@@ -124,75 +120,49 @@ also-none : (t : ℕ → Bool) → t ≡ also t []
 unfolding also
 also-none t = fun-ext (λ r. refl)
 
-module _ (w s : List Bool) (to : ℕ) where
-  marks-register : (i : Instruction) → uses i .writes ≡ to ∷ [] → uses i .sets ≡ [] → to < length w → Marks i w s (set w to true) s
-  marks-register i e q h =
-      record { written = rw e (flag-set w to h); outputs = rw q (also-none (flagged s)); long = length-set w to true; wide = refl }
+pub flags-none : (w : List Bool) → Flags [] w w
+flags-none w = record { told = also-none (flagged w); long = refl }
 
-  -- what marking each instruction does
-  pub mark-ones : to < length w → Marks (Ones to) w s (set w to true) s
-  mark-ones = marks-register (Ones to) refl refl
-
-  pub mark-zero : to < length w → Marks (Zero to) w s (set w to true) s
-  mark-zero = marks-register (Zero to) refl refl
-
-  pub mark-input : (n : ℕ) → to < length w → Marks (Input to n) w s (set w to true) s
-  mark-input n = marks-register (Input to n) refl refl
-
-  pub mark-not : (a : ℕ) → to < length w → Marks (Not to a) w s (set w to true) s
-  mark-not a = marks-register (Not to a) refl refl
-
-  pub mark-and : (a b : ℕ) → to < length w → Marks (And to a b) w s (set w to true) s
-  mark-and a b = marks-register (And to a b) refl refl
-
-  pub mark-or : (a b : ℕ) → to < length w → Marks (Or to a b) w s (set w to true) s
-  mark-or a b = marks-register (Or to a b) refl refl
-
-  pub mark-output : (a : ℕ) → to < length s → Marks (Output to a) w s w (set s to true)
-  mark-output a h = record { written = also-none (flagged w); outputs = flag-set s to h; long = refl; wide = length-set s to true }
+pub flags-one : (w : List Bool) (x : ℕ) → x < length w → Flags (x ∷ []) w (set w x true)
+flags-one w x h = record { told = flag-set w x h; long = length-set w x true }
 
 -- ---- one instruction
-pub record Admit (file : List ℕ) (at : ℕ) (p : Program) (w s : List Bool) (next : ℕ) (w′ s′ : List Bool) : Type 0 where
-  pub i : Instruction
-  pub reads : instructionOf p (flagged w) (drop at file) ≡ gives i
-  pub ahead : next ≡ at + lengthOf i
-  pub inside : next ≤ length file
-  pub marks : Marks i w s w′ s′
-
-abbrev pub Admits : Admitted → List ℕ → ℕ → Program → List Bool → List Bool → List Bool → List Bool → Type 0
-Admits (Admitted.Refused why) file at p w s w′ s′ = instructionOf p (flagged w) (drop at file) ≡ refused (numberOf why)
-Admits (Admitted.Next next) file at p w s w′ s′ = Admit file at p w s next w′ s′
-
 module _ (file : List ℕ) (at : ℕ) (p : Program) (written : ℕ → Bool) where
-  pub admit-refused : (k : ℕ) → refused k ≡ decodeAt file at → instructionOf p written (drop at file) ≡ refused k
+  pub admit-refused : (k : ℕ) → refused k ≡ decodeAt file at → refused k ≡ instructionOf p written (drop at file)
   unfolding instructionOf decodeAt
   admit-refused k e = rw (sym e)
 
   module _ (i : Instruction) (e : gives i ≡ decodeAt file at) where
-    pub admit-operand : inRange p i ≡ false → instructionOf p written (drop at file) ≡ refused 8
+    pub admit-operand : inRange p i ≡ false → refused 8 ≡ instructionOf p written (drop at file)
     unfolding instructionOf decodeAt
     admit-operand r = rw (sym e, r)
 
-    pub admit-unwritten : inRange p i ≡ true → every written (uses i .reads) ≡ false → instructionOf p written (drop at file) ≡ refused 9
+    pub admit-unwritten : inRange p i ≡ true → every written (uses i .reads) ≡ false → refused 9 ≡ instructionOf p written (drop at file)
     unfolding instructionOf decodeAt
     admit-unwritten r w = rw (sym e, r, w)
 
-    pub admit-gives : inRange p i ≡ true → every written (uses i .reads) ≡ true → instructionOf p written (drop at file) ≡ gives i
+    pub admit-gives : inRange p i ≡ true → every written (uses i .reads) ≡ true → gives i ≡ instructionOf p written (drop at file)
     unfolding instructionOf decodeAt
     admit-gives r w = rw (sym e, r, w)
 
-module _ (file : List ℕ) (at : ℕ) (i : Instruction) (e : gives i ≡ decodeAt file at) where
-  pub admit-room : at + lengthOf i ≤ length file
-  unfolding decodeAt
-  admit-room = reads-stands file at i (sym e) .room
+-- what an instruction that is admitted says
+pub instruction-means : (p : Program) (written : ℕ → Bool) (bytes : List ℕ) (i : Instruction) → instructionOf p written bytes ≡ gives i →
+    (decodeOf bytes ≡ gives i) × (inRange p i ≡ true)
+unfolding instructionOf
+instruction-means p written bytes i e =
+    let c1 = bound (decodeOf bytes) (λ j. refuse 8 (not (inRange p j)) >> (refuse 9 (not (every written (uses j .reads))) >> gives j)) i e in
+    let c2 = passed 8 (not (inRange p (c1 .0))) (refuse 9 (not (every written (uses (c1 .0) .reads))) >> gives (c1 .0)) i (c1 .2) in
+    let c3 = passed 9 (not (every written (uses (c1 .0) .reads))) (gives (c1 .0)) i (c2 .1) in
+    let q : c1 .0 ≡ i = gives-inj (c3 .1) in
+    (c1 .1 ∙ ap gives q, ap (inRange p) (sym q) ∙ not-false (inRange p (c1 .0)) (c2 .0))
 
-  pub admit-limits : (p : Program) → within p ≡ true → inRange p i ≡ true → InRange most-registers most-inputs most-outputs i
-  admit-limits p = range-limits p i
+pub admit-limits : (p : Program) (written : ℕ → Bool) (bytes : List ℕ) (i : Instruction) → gives i ≡ instructionOf p written bytes →
+    within p ≡ true → InRange most-registers most-inputs most-outputs i
+admit-limits p written bytes i e w = range-limits p i w (instruction-means p written bytes i (sym e) .1)
 
-  pub admit-next : (p : Program) (w s : List Bool) → inRange p i ≡ true → every (flagged w) (uses i .reads) ≡ true → (len : ℕ) → len ≡ lengthOf i →
-      (w′ s′ : List Bool) → Marks i w s w′ s′ → Admit file at p w s (at + len) w′ s′
-  admit-next p w s r f len l w′ s′ m =
-      record { i = i; reads = admit-gives file at p (flagged w) i e r f; ahead = rw l; inside = rw l admit-room; marks = m }
+pub admit-room : (file : List ℕ) (at : ℕ) (p : Program) (written : ℕ → Bool) (i : Instruction) → gives i ≡ instructionOf p written (drop at file) →
+    at + lengthOf i ≤ length file
+admit-room file at p written i e = reads-stands file at i (instruction-means p written (drop at file) i (sym e) .0) .room
 
 -- ---- what is left of a check
 mapped-const : {A B C : Type 0} (c : C) (f : A → B) (o : Outcome A) → mapped (λ b. c) (o >>= λ a. gives (f a)) ≡ mapped (λ a. c) o
@@ -305,7 +275,7 @@ module _ (file : List ℕ) (registers n₀ from : ℕ) (w₀ : List Bool) where
           let read : every (flagged w) (uses i .reads) ≡ true = rw (two, s .left-written, s .right-written) in
           let into : to < length w = omega (arith, s .into, g .long) in
           rw ten at
-          (passes-suc i (set w to true) (λ p r. admit-gives file at p (flagged w) i e (range p r) read) none
+          (passes-suc i (set w to true) (λ p r. sym (admit-gives file at p (flagged w) i e (range p r) read)) none
           (rw (one, ← is-to) (flag-set w to into)) (length-set w to true) (omega arith))
 
       tests : (ltb (fieldOf file (at + 4)) registers ≡ true) × (ltb (fieldOf file (at + 6)) registers ≡ true) × (ltb (fieldOf file (at + 8)) registers ≡ true)
@@ -352,28 +322,31 @@ module _ (file : List ℕ) (p : Program) where
       }
 
   module _ (n at : ℕ) (w s : List Bool) (g : Checking file p n at w s) where
-    checking-suc : (m : ℕ) → n ≡ suc m → (next : ℕ) (w′ s′ : List Bool) → Admit file at p w s next w′ s′ → Checking file p m next w′ s′
-    checking-suc m q next w′ s′ a =
-        record {
-          same = rw (a .ahead, a .marks .written, a .marks .outputs)
-              (sym (rest-more file p (flagged w) (flagged s) m at (a .i) (a .reads)) ∙ rw q at (g .same));
-          inside = a .inside;
-          long = a .marks .long ∙ g .long;
-          wide = a .marks .wide ∙ g .wide;
-        }
+    module _ (i : Instruction) (reads : gives i ≡ instructionOf p (flagged w) (drop at file)) where
+      checking-suc : (m : ℕ) → n ≡ suc m → (w′ s′ : List Bool) → Flags (uses i .writes) w w′ → Flags (uses i .sets) s s′ →
+          Checking file p m (at + lengthOf i) w′ s′
+      checking-suc m q w′ s′ a b =
+          record {
+            same = rw (a .told, b .told)
+                (sym (rest-more file p (flagged w) (flagged s) m at i (sym reads)) ∙ rw q at (g .same));
+            inside = admit-room file at p (flagged w) i reads;
+            long = a .long ∙ g .long;
+            wide = b .long ∙ g .wide;
+          }
 
-    pub checking-admit : 0 < n → (next : ℕ) (w′ s′ : List Bool) → Admit file at p w s next w′ s′ → Checking file p (n - 1) next w′ s′
-    checking-admit l next w′ s′ a = checking-suc (n - 1) (omega arith) next w′ s′ a
+      pub checking-admit : 0 < n → (len : ℕ) → len ≡ lengthOf i → (w′ s′ : List Bool) → Flags (uses i .writes) w w′ →
+          Flags (uses i .sets) s s′ → Checking file p (n - 1) (at + len) w′ s′
+      checking-admit l len e w′ s′ a b = rw e (checking-suc (n - 1) (omega arith) w′ s′ a b)
 
     pub checking-passes : (n′ at′ : ℕ) (w′ : List Bool) → Passes file (p .registers) n at w n′ at′ w′ → Checking file p n′ at′ w′ s
     checking-passes n′ at′ w′ a =
         record { same = a .same p refl (flagged s) ∙ g .same; inside = a .inside; long = a .long ∙ g .long; wide = g .wide }
 
-    pub checking-refused : 0 < n → (k : ℕ) → instructionOf p (flagged w) (drop at file) ≡ refused k →
+    pub checking-refused : 0 < n → (k : ℕ) → refused k ≡ instructionOf p (flagged w) (drop at file) →
         refused k ≡ restOf file p nothing nothing (p .count) header-length
     checking-refused l k e =
         let q : n ≡ suc (n - 1) = omega arith in
-        sym (rest-refused file p (flagged w) (flagged s) (n - 1) at k e) ∙ rw q at (g .same)
+        sym (rest-refused file p (flagged w) (flagged s) (n - 1) at k (sym e)) ∙ rw q at (g .same)
 
     module _ (z : n ≤ 0) where
       at-end : restOf file p (flagged w) (flagged s) 0 at ≡ restOf file p nothing nothing (p .count) header-length

@@ -2,6 +2,7 @@
 pub mod Meaning
 pub mod Checks
 pub mod Runs
+pub mod Fresh
 pub mod Standing
 pub mod Turns
 pub mod Checking

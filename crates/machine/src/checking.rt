@@ -2,15 +2,15 @@
 ghost use mathlib.Core.Path.{_≡_};
 ghost use mathlib.Core.Bool.{not, true};
 ghost use Prim.Native.Nat.{_+_, _≤_, _<_};
-ghost use lib.ListN.{length};
+ghost use lib.ListN.{drop, length};
 ghost use Rattle.laws.specs.Sums.{any};
 ghost use Rattle.laws.specs.Outcome.{mapped};
 ghost use Rattle.programs.specs.Limits.{most-inputs, most-outputs, most-registers, within};
-ghost use Rattle.programs.specs.Instructions.{uses};
+ghost use Rattle.programs.specs.Instructions.{decoded, uses};
 ghost use Rattle.programs.specs.Header.{checked, header-length};
-ghost use Rattle.machine.specs.Checks.{checkOf, every, inRange, nothing};
+ghost use Rattle.machine.specs.Checks.{checkOf, every, inRange, instructionOf, nothing};
 ghost use Rattle.machine.specs.Standing.{InRange};
-ghost use Rattle.machine.specs.Checking.{Admits, flagged, Marks, Passes, restOf, SoundGate};
+ghost use Rattle.machine.specs.Checking.{flagged, Flags, Passes, restOf, SoundGate};
 use crate::steps::Left;
 use crate::steps::field_at;
 use crate::steps::lesser;
@@ -56,15 +56,10 @@ fn readable(i: Instruction, written: &[bool; Program::REGISTERS]) -> bool
     }
 }
 
-// Marks the register that an instruction writes, or the output that it sets.
-fn mark(
-    i: Instruction,
-    written: &mut [bool; Program::REGISTERS],
-    set: &mut [bool; Program::OUTPUTS],
-)
-    requires { ⌜ InRange most-registers most-inputs most-outputs i ⌝ }
-    requires { ⌜ (length (now written) ≡ most-registers) × (length (now set) ≡ most-outputs) ⌝ }
-    ensures { λ _. ⌜ Marks i (now (written .entry)) (now (set .entry)) (now (written .exit)) (now (set .exit)) ⌝ }
+// Marks the register that an instruction writes.
+fn mark_register(i: Instruction, written: &mut [bool; Program::REGISTERS])
+    requires { ⌜ InRange most-registers most-inputs most-outputs i × (length (now written) ≡ most-registers) ⌝ }
+    ensures { λ _. ⌜ Flags (uses i .writes) (now (written .entry)) (now (written .exit)) ⌝ }
 {
     match i {
         Instruction::Ones(to) => written[to as usize] = true,
@@ -73,38 +68,41 @@ fn mark(
         Instruction::Not(to, _) => written[to as usize] = true,
         Instruction::And(to, _, _) => written[to as usize] = true,
         Instruction::Or(to, _, _) => written[to as usize] = true,
+        Instruction::Output(_, _) => {}
+    }
+}
+
+// Marks the output that an instruction sets.
+fn mark_output(i: Instruction, set: &mut [bool; Program::OUTPUTS])
+    requires { ⌜ InRange most-registers most-inputs most-outputs i × (length (now set) ≡ most-outputs) ⌝ }
+    ensures { λ _. ⌜ Flags (uses i .sets) (now (set .entry)) (now (set .exit)) ⌝ }
+{
+    match i {
+        Instruction::Ones(_) => {}
+        Instruction::Zero(_) => {}
+        Instruction::Input(_, _) => {}
+        Instruction::Not(_, _) => {}
+        Instruction::And(_, _, _) => {}
+        Instruction::Or(_, _, _) => {}
         Instruction::Output(o, _) => set[o as usize] = true,
     }
 }
 
-// A refusal, or the byte after an instruction.
-enum Admitted {
-    Refused(Refusal),
-    Next(usize),
-}
-
-// One instruction: refusals 1, 7, 8 and 9. What it writes or sets is marked.
-fn admit(
-    file: &[u8],
-    at: usize,
-    p: Program,
-    written: &mut [bool; Program::REGISTERS],
-    set: &mut [bool; Program::OUTPUTS],
-) -> Admitted
-    requires { ⌜ (within p ≡ true) × (length (now written) ≡ most-registers) × (length (now set) ≡ most-outputs) ⌝ }
-    ensures { λ r. ⌜ Admits r (now (file .entry)) at p (now (written .entry)) (now (set .entry)) (now (written .exit)) (now (set .exit)) ⌝ }
+// The instruction at byte `at`: refusals 1, 7, 8 and 9.
+fn admit(file: &[u8], at: usize, p: Program, written: &[bool; Program::REGISTERS]) -> Decoded
+    requires { ⌜ within p ≡ true ⌝ }
+    ensures { λ r. ⌜ decoded r ≡ instructionOf p (flagged (now (written .entry))) (drop at (now (file .entry))) ⌝ }
 {
     match decode(file, at) {
-        Decoded::Refused(why) => Admitted::Refused(why),
+        Decoded::Refused(why) => Decoded::Refused(why),
         Decoded::Instruction(i) => {
             if !in_range(i, p) {
-                return Admitted::Refused(Refusal::Operand);
+                return Decoded::Refused(Refusal::Operand);
             }
             if !readable(i, written) {
-                return Admitted::Refused(Refusal::Unwritten);
+                return Decoded::Refused(Refusal::Unwritten);
             }
-            mark(i, written, set);
-            Admitted::Next(at + i.length())
+            Decoded::Instruction(i)
         }
     }
 }
@@ -181,25 +179,26 @@ fn body(file: &[u8], p: Program) -> Checked
     requires { ⌜ (within p ≡ true) × (header-length ≤ length (now file)) ⌝ }
     ensures { λ r. ⌜ checked r ≡ restOf (now (file .entry)) p nothing nothing (p .count) header-length ⌝ }
 {
-    let seen = Seen::fresh();
-    let mut written = seen.written;
-    let mut set = seen.set;
+    let mut seen = Seen::fresh();
     let mut at = Program::HEADER;
     let mut more = p.count as usize;
     while 0 < more {
-        match admit(file, at, p, &mut written, &mut set) {
-            Admitted::Refused(why) => return Checked::Refused(why),
-            Admitted::Next(next) => at = next,
-        }
-        let a = gates(file, at, more - 1, 5, p.registers, &mut written);
-        let o = gates(file, a.at, a.more, 6, p.registers, &mut written);
+        let i = match admit(file, at, p, &seen.written) {
+            Decoded::Refused(why) => return Checked::Refused(why),
+            Decoded::Instruction(i) => i,
+        };
+        mark_register(i, &mut seen.written);
+        mark_output(i, &mut seen.set);
+        at += i.length();
+        let a = gates(file, at, more - 1, 5, p.registers, &mut seen.written);
+        let o = gates(file, a.at, a.more, 6, p.registers, &mut seen.written);
         at = o.at;
         more = o.more;
     }
     if at < file.len() {
         return Checked::Refused(Refusal::Length);
     }
-    if any_unset(&set, p.outputs) {
+    if any_unset(&seen.set, p.outputs) {
         return Checked::Refused(Refusal::Unset);
     }
     Checked::Program(p)

@@ -1,6 +1,7 @@
 // The machine: it checks program files and runs them on 64-bit words (01, "Runs, words, samples").
 mod checking;
 mod runs;
+mod state;
 mod steps;
 
 pub use checking::check;
@@ -8,3 +9,4 @@ pub use runs::Ran;
 pub use runs::Run;
 pub use runs::resume;
 pub use runs::start;
+pub use state::State;

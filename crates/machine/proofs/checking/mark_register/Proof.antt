@@ -1,8 +1,8 @@
--- `machine::mark` meets its contract: by the kind. Assumes nothing.
+-- `machine::mark_register` meets its contract: by the kind. Assumes nothing.
 use borrow.Author.Needs.{needs}
-use Rattle.machine.specs.Checking.{mark-ones, mark-zero, mark-input, mark-not, mark-and, mark-or, mark-output}
-use Rattle.machine.proofs.checking.mark.Statement.{statement}
-use Rattle.machine.proofs.checking.mark.Tie as tie
+use Rattle.machine.specs.Checking.{flags-none, flags-one}
+use Rattle.machine.proofs.checking.mark_register.Statement.{statement}
+use Rattle.machine.proofs.checking.mark_register.Tie as tie
 
 enum-known-i : tie.Need-enum-known-i
 enum-known-i c = search needs
@@ -58,38 +58,44 @@ cast-written-6 c = search needs
 element-write-written-6 : tie.Need-element-write-written-6
 element-write-written-6 c = let r = rw (c .before .i6 .given .1) at (c .before .before .before .pre .0) in r .0
 
-enum-known-i-7 : tie.Need-enum-known-i-7
-enum-known-i-7 c = search needs
-
-cast-set : tie.Need-cast-set
-cast-set c = search needs
-
-element-write-set : tie.Need-element-write-set
-element-write-set c = let r = rw (c .before .i7 .given .1) at (c .before .before .before .pre .0) in r .0
+enum-told : tie.Need-enum-told
+enum-told c = search needs
 
 returns : tie.Need-returns
-returns c = rw (c .before .i .given .1) (mark-ones _ _ _ (rw (c .before .before .before .pre .1 .0) (let r = rw (c .before .i .given .1) at (c .before .before .before .pre .0) in r)))
+returns c =
+    let r = rw (c .before .i .given .1) at (c .before .before .before .pre .0) in
+    rw (c .before .i .given .1) (flags-one _ _ (rw (c .before .before .before .pre .1) (r)))
 
 returns-2 : tie.Need-returns-2
-returns-2 c = rw (c .before .i2 .given .1) (mark-zero _ _ _ (rw (c .before .before .before .pre .1 .0) (let r = rw (c .before .i2 .given .1) at (c .before .before .before .pre .0) in r)))
+returns-2 c =
+    let r = rw (c .before .i2 .given .1) at (c .before .before .before .pre .0) in
+    rw (c .before .i2 .given .1) (flags-one _ _ (rw (c .before .before .before .pre .1) (r)))
 
 returns-3 : tie.Need-returns-3
-returns-3 c = rw (c .before .i3 .given .1) (mark-input _ _ _ _ (rw (c .before .before .before .pre .1 .0) (let r = rw (c .before .i3 .given .1) at (c .before .before .before .pre .0) in r .0)))
+returns-3 c =
+    let r = rw (c .before .i3 .given .1) at (c .before .before .before .pre .0) in
+    rw (c .before .i3 .given .1) (flags-one _ _ (rw (c .before .before .before .pre .1) (r .0)))
 
 returns-4 : tie.Need-returns-4
-returns-4 c = rw (c .before .i4 .given .1) (mark-not _ _ _ _ (rw (c .before .before .before .pre .1 .0) (let r = rw (c .before .i4 .given .1) at (c .before .before .before .pre .0) in r .0)))
+returns-4 c =
+    let r = rw (c .before .i4 .given .1) at (c .before .before .before .pre .0) in
+    rw (c .before .i4 .given .1) (flags-one _ _ (rw (c .before .before .before .pre .1) (r .0)))
 
 returns-5 : tie.Need-returns-5
-returns-5 c = rw (c .before .i5 .given .1) (mark-and _ _ _ _ _ (rw (c .before .before .before .pre .1 .0) (let r = rw (c .before .i5 .given .1) at (c .before .before .before .pre .0) in r .0)))
+returns-5 c =
+    let r = rw (c .before .i5 .given .1) at (c .before .before .before .pre .0) in
+    rw (c .before .i5 .given .1) (flags-one _ _ (rw (c .before .before .before .pre .1) (r .0)))
 
 returns-6 : tie.Need-returns-6
-returns-6 c = rw (c .before .i6 .given .1) (mark-or _ _ _ _ _ (rw (c .before .before .before .pre .1 .0) (let r = rw (c .before .i6 .given .1) at (c .before .before .before .pre .0) in r .0)))
+returns-6 c =
+    let r = rw (c .before .i6 .given .1) at (c .before .before .before .pre .0) in
+    rw (c .before .i6 .given .1) (flags-one _ _ (rw (c .before .before .before .pre .1) (r .0)))
 
 returns-7 : tie.Need-returns-7
-returns-7 c = rw (c .before .i7 .given .1) (mark-output _ _ _ _ (rw (c .before .before .before .pre .1 .1) (let r = rw (c .before .i7 .given .1) at (c .before .before .before .pre .0) in r .0)))
+returns-7 c = rw (c .enum-told .given .1) (flags-none _)
 
-pub mark-spec : {M : Type 1} → statement M
-mark-spec =
+pub mark-register-spec : {M : Type 1} → statement M
+mark-register-spec =
     tie.close
     (tie.spec
     enum-known-i
@@ -110,9 +116,7 @@ mark-spec =
     enum-known-i-6
     cast-written-6
     element-write-written-6
-    enum-known-i-7
-    cast-set
-    element-write-set
+    enum-told
     returns
     returns-2
     returns-3
