@@ -9,7 +9,7 @@ ghost use lib.ListN.{length};
 ghost use Rattle.laws.specs.Lay.{lay};
 ghost use Rattle.laws.specs.Outcome.{laid, mapped, refused};
 ghost use Rattle.files.specs.Refusal.{numberOf};
-ghost use Rattle.programs.specs.Limits.{most-outputs};
+ghost use Rattle.programs.specs.Limits.{most-outputs, most-registers};
 ghost use Rattle.drawing.specs.Drawing.{afterOwn, batched, batchOf, drawn, drawOf, drawSignedOf};
 use files::Refusal;
 use lanes::LANES;
@@ -17,6 +17,7 @@ use lanes::Sampled;
 use lanes::Sliced;
 use lanes::slice;
 use machine::Ran;
+use machine::State;
 use machine::check;
 use machine::start;
 use programs::Checked;
@@ -45,9 +46,15 @@ fn first_refusal(program: &[u8], other: Refusal) -> Refusal
     }
 }
 
-// Runs a program on 64 strings, on words of its own: the outputs are laid at the front of `outputs`. A sound program is checked once, by its start.
-fn run_batch(program: &[u8], strings: &[u8], room: usize, outputs: &mut [u64]) -> Batch
-    requires { ⌜ most-outputs ≤ length (now outputs) ⌝ }
+// Runs a program on 64 strings: the outputs are laid at the front of `outputs`. A sound program is checked once, by its start.
+fn run_batch(
+    program: &[u8],
+    strings: &[u8],
+    room: usize,
+    registers: &mut [u64],
+    outputs: &mut [u64],
+) -> Batch
+    requires { ⌜ (most-registers ≤ length (now registers)) × (most-outputs ≤ length (now outputs)) ⌝ }
     ensures { λ r. ⌜ batched r ≡ mapped length (batchOf (now (program .entry)) (now (strings .entry)) room) ⌝ }
     ensures { λ r. ⌜ now (outputs .exit) ≡ lay (laid (λ xs. xs) (batchOf (now (program .entry)) (now (strings .entry)) room)) (now (outputs .entry)) ⌝ }
 {
@@ -63,8 +70,7 @@ fn run_batch(program: &[u8], strings: &[u8], room: usize, outputs: &mut [u64]) -
     if room < LANES {
         return Batch::Refused(first_refusal(program, Refusal::Buffer));
     }
-    let mut registers = [0u64; Program::REGISTERS];
-    match start(program, &words, &mut registers, outputs, p.count) {
+    match start(program, &words, registers, outputs, p.count) {
         Ran::Refused(why) => Batch::Refused(why),
         Ran::Done(_) => Batch::Outputs(p.outputs),
     }
@@ -76,8 +82,16 @@ pub fn draw(program: &[u8], strings: &[u8], samples: &mut [u8]) -> Drawn
     ensures { λ r. ⌜ drawn r ≡ mapped (λ xs. tt) (drawOf (now (program .entry)) (now (strings .entry)) (length (now (samples .entry)))) ⌝ }
     ensures { λ r. ⌜ now (samples .exit) ≡ lay (laid (λ xs. xs) (drawOf (now (program .entry)) (now (strings .entry)) (length (now (samples .entry))))) (now (samples .entry)) ⌝ }
 {
-    let mut outputs = [0u64; Program::OUTPUTS];
-    match run_batch(program, strings, samples.len(), &mut outputs) {
+    let state = State::fresh();
+    let mut registers = state.registers;
+    let mut outputs = state.outputs;
+    match run_batch(
+        program,
+        strings,
+        samples.len(),
+        &mut registers,
+        &mut outputs,
+    ) {
         Batch::Refused(why) => Drawn::Refused(why),
         Batch::Outputs(n) => match lanes::samples(&outputs[..n], samples) {
             Sampled::Refused(why) => Drawn::Refused(why),
@@ -91,8 +105,16 @@ pub fn draw_signed(program: &[u8], strings: &[u8], sign: u64, samples: &mut [i16
     ensures { λ r. ⌜ drawn r ≡ mapped (λ xs. tt) (drawSignedOf (now (program .entry)) (now (strings .entry)) sign (length (now (samples .entry)))) ⌝ }
     ensures { λ r. ⌜ now (samples .exit) ≡ lay (laid (λ xs. xs) (drawSignedOf (now (program .entry)) (now (strings .entry)) sign (length (now (samples .entry))))) (now (samples .entry)) ⌝ }
 {
-    let mut outputs = [0u64; Program::OUTPUTS];
-    match run_batch(program, strings, samples.len(), &mut outputs) {
+    let state = State::fresh();
+    let mut registers = state.registers;
+    let mut outputs = state.outputs;
+    match run_batch(
+        program,
+        strings,
+        samples.len(),
+        &mut registers,
+        &mut outputs,
+    ) {
         Batch::Refused(why) => Drawn::Refused(why),
         Batch::Outputs(n) => match lanes::signed_samples(&outputs[..n], sign, samples) {
             Sampled::Refused(why) => Drawn::Refused(why),

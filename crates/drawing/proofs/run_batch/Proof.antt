@@ -53,9 +53,6 @@ returns-3 c =
 slice-aggregate-start : tie.Need-slice-aggregate-start
 slice-aggregate-start c = search needs
 
-slice-aggregate-start-2 : tie.Need-slice-aggregate-start-2
-slice-aggregate-start-2 c = search needs
-
 start-requires : tie.Need-start-requires
 start-requires c κs = search needs
 
@@ -68,24 +65,32 @@ enum-told-2 c = search needs
 same-length : tie.Need-same-length
 same-length c = search needs
 
-returns-4 : tie.Need-returns-4
-returns-4 c =
-    let head = rw (c .before .before .before .before .before .before .before .before .before .before .before .before .before .before .before .before .before .p .given .1) at (c .before .before .before .before .before .before .before .before .before .before .before .before .before .before .before .before .before .before .before .read-header .ensures) in
-    let cut = rw (c .before .before .before .before .before .before .before .before .before .before .before .enum-told .given .1) at (c .before .before .before .before .before .before .before .before .before .before .before .before .before .before .slice .ensures .0) in
-    batch-refused _ _ _ _ head (replicate most-inputs 0) (search needs) (c .before .before .before .before .before .before .before .before .before .before .if1 .left) _ _ (search needs) (search needs) _ cut _
-    (c .before .before .before .before .before .before .before .before .before .before .before .before .before .before .slice .ensures .1) _ (c .before .before .before .before .before .before .start .ensures .1 .1) _
-    (rw (c .before .why3 .given .1) at (c .before .before .before .before .before .before .start .ensures .0))
-
 same-length-2 : tie.Need-same-length-2
 same-length-2 c = search needs
 
+returns-4 : tie.Need-returns-4
+returns-4 c =
+    let asked = c .before .before .before .before .before .before .before .before .before .before .before .before .before .before .before .before .before .before in
+    let head = rw (asked .p .given .1) at (asked .before .before .read-header .ensures) in
+    let cut = rw (c .before .before .before .before .before .before .before .before .before .before .before .before .enum-told .given .1) at (c .before .before .before .before .before .before .before .before .before .before .before .before .before .before .before .slice .ensures .0) in
+    batch-refused _ _ _ _ head (replicate most-inputs 0) (search needs) (c .before .before .before .before .before .before .before .before .before .before .before .if1 .left) _ _ (search needs) (search needs) _ cut _
+    (c .before .before .before .before .before .before .before .before .before .before .before .before .before .before .before .slice .ensures .1) _ (c .before .before .before .before .before .before .before .start .ensures .1 .1) _
+    (rw (c .before .why3 .given .1) at (c .before .before .before .before .before .before .before .start .ensures .0))
+
+same-length-3 : tie.Need-same-length-3
+same-length-3 c = search needs
+
+same-length-4 : tie.Need-same-length-4
+same-length-4 c = search needs
+
 returns-5 : tie.Need-returns-5
 returns-5 c =
-    let head = rw (c .before .before .before .before .before .before .before .before .before .before .before .before .before .before .before .before .p .given .1) at (c .before .before .before .before .before .before .before .before .before .before .before .before .before .before .before .before .before .before .read-header .ensures) in
-    let cut = rw (c .before .before .before .before .before .before .before .before .before .before .enum-told .given .1) at (c .before .before .before .before .before .before .before .before .before .before .before .before .before .slice .ensures .0) in
-    batch-done _ _ _ _ head (replicate most-inputs 0) (search needs) (c .before .before .before .before .before .before .before .before .before .if1 .left) _ _ (search needs) (search needs) _ cut _
-    (c .before .before .before .before .before .before .before .before .before .before .before .before .before .slice .ensures .1) _ (c .before .before .before .before .before .start .ensures .1 .1) _
-    (rw (c .enum-told2 .given .1) at (c .before .before .before .before .before .start .ensures .0))
+    let asked = c .before .before .before .before .before .before .before .before .before .before .before .before .before .before .before .before .before in
+    let head = rw (asked .p .given .1) at (asked .before .before .read-header .ensures) in
+    let cut = rw (c .before .before .before .before .before .before .before .before .before .before .before .enum-told .given .1) at (c .before .before .before .before .before .before .before .before .before .before .before .before .before .before .slice .ensures .0) in
+    batch-done _ _ _ _ head (replicate most-inputs 0) (search needs) (c .before .before .before .before .before .before .before .before .before .before .if1 .left) _ _ (search needs) (search needs) _ cut _
+    (c .before .before .before .before .before .before .before .before .before .before .before .before .before .before .slice .ensures .1) _ (c .before .before .before .before .before .before .start .ensures .1 .1) _
+    (rw (c .enum-told2 .given .1) at (c .before .before .before .before .before .before .start .ensures .0))
 
 pub run-batch-spec : {M : Type 1} → statement M
 run-batch-spec =
@@ -104,11 +109,12 @@ run-batch-spec =
     first-refusal-requires-2
     returns-3
     slice-aggregate-start
-    slice-aggregate-start-2
     start-requires
     enum-known-why-3
     enum-told-2
     same-length
-    returns-4
     same-length-2
+    returns-4
+    same-length-3
+    same-length-4
     returns-5)
