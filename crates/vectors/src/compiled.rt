@@ -29,6 +29,7 @@ use lanes::LANES;
 use lanes::Sampled;
 use machine::Ran;
 use machine::Run;
+use machine::State;
 use machine::resume;
 use machine::start;
 use programs::Program;
@@ -174,8 +175,9 @@ pub(crate) fn stops_case(line: &[u8], program: &mut [u8]) {
     let i = take_words(field(line, 2), &mut inputs);
     let mut budgets = [0u32; 16];
     let b = take_shorts(field(line, 3), &mut budgets);
-    let mut registers = [0u64; Program::REGISTERS];
-    let mut outputs = [0u64; Program::OUTPUTS];
+    let state = State::fresh();
+    let mut registers = state.registers;
+    let mut outputs = state.outputs;
     match compile(&file[..n], program) {
         Written::Refused(why) => refuse(why),
         Written::Length(length) => {

@@ -23,6 +23,7 @@ use crate::hashes::with_words;
 use crate::matrices::BYTES;
 use machine::Ran;
 use machine::Run;
+use machine::State;
 use machine::resume;
 use machine::start;
 use programs::Checked;
@@ -216,8 +217,9 @@ pub(crate) fn with_call(
 }
 
 fn long_start(program: &[u8], inputs: &[u64], budget: u32) {
-    let mut registers = [0u64; Program::REGISTERS];
-    let mut outputs = [0u64; Program::OUTPUTS];
+    let state = State::fresh();
+    let mut registers = state.registers;
+    let mut outputs = state.outputs;
     match start(program, inputs, &mut registers, &mut outputs, budget) {
         Ran::Refused(why) => refuse(why),
         Ran::Done(run) => {
