@@ -1,12 +1,13 @@
 //! Corkhollow from Rust: what `corkhollow.h` declares, and a safe function for each of it.
 //!
-//! Take this file into a crate by `#[path = ".."] mod corkhollow;` and link the static library `engine`, which `rt staticlib engine` writes to
-//! target/staticlib/. The header says what each operation takes, gives and refuses. A refusal has changed nothing that was lent.
+//! Take this file into a crate by `#[path = ".."] mod corkhollow;` and link the static library `engine`: `bash include/archive` writes
+//! target/staticlib/libengine.a. It uses `core` alone, so that it works without `std`, in the editions 2021 and 2024.
+//! The header says what each operation takes, gives and refuses. A refusal has changed nothing that was lent.
 //!
-//! Nothing proves these declarations: they are kept in step with the engine by the tests in tests/interface.
+//! Nothing proves these declarations: they are kept in step with the engine by the tests in tests/interface and tests/wrapper.
 #![allow(dead_code)] // a program that uses some of the operations need not use all
 
-use std::fmt;
+use core::fmt;
 
 pub const LANES: usize = 64;
 pub const ROWS: usize = 128;
@@ -39,7 +40,7 @@ pub const fn matrix_length(rows: usize, columns: usize) -> usize {
 
 /// The functions as they are linked; the header says what they promise.
 pub mod raw {
-    extern "C" {
+    unsafe extern "C" {
         pub fn corkhollow_read(
             file: *const u8,
             file_length: usize,
@@ -183,7 +184,7 @@ impl fmt::Display for Refusal {
     }
 }
 
-impl std::error::Error for Refusal {}
+impl core::error::Error for Refusal {}
 
 /// What a program's header says.
 #[derive(Clone, Copy, Debug, PartialEq, Eq)]

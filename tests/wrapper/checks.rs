@@ -1,0 +1,154 @@
+//! Every function of include/corkhollow.rs on 01's example, the rows 10, 01, 01, and on one row 1 of one column. What it must answer is
+//! worked out by hand from 01, so that this needs nothing but `core`.
+
+use crate::corkhollow::{self, Header, Refusal, Run, LANES, MISS, SIGNED_MISS};
+
+/// Says which function answered something else.
+pub type Checked = Result<(), &'static str>;
+
+/// The rows 10, 01, 01 as a file, and as entries.
+const FILE: [u8; 11] = [0x0b, 0, 0x20, 0, 3, 0, 2, 0, 0x80, 0x40, 0x40];
+const ENTRIES: [u8; 6] = [1, 0, 0, 1, 0, 1];
+
+/// The strings 00 and 01 give 0, 10 gives 2, 11 gives 1.
+const GIVES: [u8; 4] = [0, 0, 2, 1];
+
+/// 01, "Translation", with k = 2: registers B, N, H, two of V, three of X, six of Y. Instructions: 4 at the beginning; 6 for column 0, in
+/// which row 0 is set and one place stays open; 8 for column 1, in which rows 2 and 1 are set and none stays open; 3 at the end.
+const HEADER: Header = Header {
+    registers: 14,
+    inputs: 2,
+    outputs: 3,
+    count: 21,
+};
+
+/// One row 1 of one column: string 0 gives 0, string 1 misses.
+const ROW_1: [u8; 9] = [9, 0, 0x20, 0, 1, 0, 1, 0, 0x80];
+
+const SIGN: u64 = 0x0123_4567_89ab_cdef;
+
+fn must(name: &'static str, holds: bool) -> Checked {
+    if holds {
+        Ok(())
+    } else {
+        Err(name)
+    }
+}
+
+/// The first one that answers something else.
+pub fn all() -> Checked {
+    files()?;
+    walks()?;
+    let mut program = [0; 512];
+    let length = corkhollow::compile(&FILE, &mut program).map_err(|_| "compile")?;
+    let program = &program[..length];
+    must("check", corkhollow::check(program) == Ok(HEADER))?;
+    in_one_call(program)?;
+    in_parts(program)?;
+    a_miss()?;
+    must("refusal", a_refusal() == Err(Refusal(1)))
+}
+
+/// A file cut short.
+pub fn a_refusal() -> Result<Option<usize>, Refusal> {
+    corkhollow::walk(&FILE[..10], &[0])
+}
+
+fn files() -> Checked {
+    let mut file = [0; 11];
+    // weights 2, 1, 1 of 4 are the rows 10, 01, 01 of 2 columns
+    let length = corkhollow::build(&[2, 1, 1], 2, false, &mut file);
+    must("build", length == Ok(11) && file == FILE)?;
+    let mut entries = [7; 6];
+    let sizes = corkhollow::read(&FILE, &mut entries);
+    must("read", sizes == Ok((3, 2)) && entries == ENTRIES)?;
+    let mut file = [0; 11];
+    let length = corkhollow::write(3, 2, &ENTRIES, &mut file);
+    must("write", length == Ok(11) && file == FILE)
+}
+
+fn walks() -> Checked {
+    for (string, row) in (0u8..).zip(GIVES) {
+        let walked = corkhollow::walk(&FILE, &[string << 6]);
+        must("walk", walked == Ok(Some(usize::from(row))))?;
+    }
+    must("walk", corkhollow::walk(&ROW_1, &[0x80]) == Ok(None))
+}
+
+/// All the strings of so many bits in turn, one a lane.
+fn strings(bits: u32) -> [u8; LANES] {
+    core::array::from_fn(|lane| (lane as u8) << (8 - bits))
+}
+
+/// What the lanes must give, plain and signed.
+fn plain() -> [u8; LANES] {
+    core::array::from_fn(|lane| GIVES[lane % 4])
+}
+
+fn signed() -> [i16; LANES] {
+    core::array::from_fn(|lane| {
+        let sample = i16::from(GIVES[lane % 4]);
+        if SIGN >> lane & 1 == 1 {
+            -sample
+        } else {
+            sample
+        }
+    })
+}
+
+fn in_one_call(program: &[u8]) -> Checked {
+    let mut samples = [7; LANES];
+    let drawn = corkhollow::draw(program, &strings(2), &mut samples);
+    must("draw", drawn == Ok(()) && samples == plain())?;
+    let mut samples = [7; LANES];
+    let drawn = corkhollow::draw_signed(program, &strings(2), SIGN, &mut samples);
+    must("draw_signed", drawn == Ok(()) && samples == signed())
+}
+
+/// The same batch by slicing, a run that is stopped and resumed, and reading.
+fn in_parts(program: &[u8]) -> Checked {
+    let mut words = [7; 2];
+    let sliced = corkhollow::slice(2, &strings(2), &mut words);
+    // four strings in turn: their first bits are 0, 0, 1, 1, their second 0, 1, 0, 1, from the lowest lane up
+    let wanted = [0xcccc_cccc_cccc_cccc, 0xaaaa_aaaa_aaaa_aaaa];
+    must("slice", sliced == Ok(()) && words == wanted)?;
+    let (mut registers, mut outputs) = ([7; 14], [7; 3]);
+    let stopped = corkhollow::start(program, &words, &mut registers, &mut outputs, 10);
+    must("start", stopped == Ok(run(10, 10, false)))?;
+    let ended = corkhollow::resume(program, &words, &mut registers, &mut outputs, 10, 99);
+    must("resume", ended == Ok(run(21, 11, true)))?;
+    // all lanes hit; of the samples 0, 0, 2, 1 the lower bits are 0, 0, 0, 1 and the higher 0, 0, 1, 0
+    let wanted = [u64::MAX, 0x8888_8888_8888_8888, 0x4444_4444_4444_4444];
+    must("resume", outputs == wanted)?;
+    let mut samples = [7; LANES];
+    let read = corkhollow::samples(&outputs, &mut samples);
+    must("samples", read == Ok(()) && samples == plain())?;
+    let mut samples = [7; LANES];
+    let read = corkhollow::signed_samples(&outputs, SIGN, &mut samples);
+    must("signed_samples", read == Ok(()) && samples == signed())
+}
+
+fn run(position: u32, count: u32, finished: bool) -> Run {
+    Run {
+        position,
+        count,
+        finished,
+    }
+}
+
+/// Every second lane misses.
+fn a_miss() -> Checked {
+    let mut program = [0; 512];
+    let length = corkhollow::compile(&ROW_1, &mut program).map_err(|_| "compile")?;
+    let (mut samples, mut signed) = ([7; LANES], [7; LANES]);
+    let drawn = corkhollow::draw(&program[..length], &strings(1), &mut samples);
+    must(
+        "draw",
+        drawn == Ok(()) && samples.chunks(2).all(|two| two == [0, MISS]),
+    )?;
+    let drawn = corkhollow::draw_signed(&program[..length], &strings(1), SIGN, &mut signed);
+    must(
+        "draw_signed",
+        drawn == Ok(()) && signed.chunks(2).all(|two| two == [0, SIGNED_MISS]),
+    )
+}
