@@ -2,24 +2,33 @@
  * Corkhollow: the 64-lane Knuth-Yao noise engine.
  *
  * A table of probabilities (a matrix file) is compiled to a program of ANDs, ORs and NOTs, which runs on 64-bit words: 64 samples a run.
- * Link libengine.a, which `rt staticlib engine` writes to target/staticlib/.
+ * Link libengine.a, which `bash include/archive` writes to target/staticlib/. It is for x86-64 Linux (ELF, the System V calling
+ * convention), and needs nothing but `memset` from outside.
  *
  * What every function keeps to:
  *
  * - It returns 0 (CORKHOLLOW_OK), or the number of one refusal (enum corkhollow_refusal).
  * - It takes any content and any length. A length counts elements, not bytes. Where a length is 0 the pointer is not followed and may be
- *   null; any other pointer is to as many elements as its length says, aligned for its type, and a pointer to a number is never null.
- * - Memory that is changed overlaps nothing else that is lent in the same call.
+ *   null; any other pointer to elements is to as many as its length says, aligned for its type. A pointer to one number or one bool, for
+ *   an answer, has no length: it is never null, and points to one that is aligned and can be written.
+ * - Memory that is changed overlaps nothing else that is lent in the same call. Memory that is only read may overlap other memory that is
+ *   only read.
  * - On a refusal nothing lent has changed, the numbers included. On success a buffer has its result at the front; beyond that
  *   nothing has changed.
  * - A buffer longer than needed is never refused, and its rest is neither read nor written. A file is exactly its length: bytes left over
  *   are a refusal.
- * - A string of n bits is packed into CORKHOLLOW_WIDTH(n) bytes, bit 0 highest in the first byte. Where n is no multiple of 8, the spare low
- *   bits of the last byte must be 0: clear them in random bytes. README.md has the layout of the files.
- * - It keeps nothing between calls, takes no memory but some of the stack (under 16 KiB), makes no random bits and always returns.
+ * - A string of n bits is packed into CORKHOLLOW_WIDTH(n) bytes, bit 0 highest in the first byte. Where n is no multiple of 8, the spare
+ *   low bits of the last byte must be 0: clear them in random bytes. README.md has the layout of the files.
+ * - It keeps nothing between calls, makes no random bits and always returns.
  *
  * These are proved, with the answers, in the source (crates/engine). The declarations below are not: they are kept in step by
  * the tests in tests/interface.
+ *
+ * What no theorem speaks of, and the same tests measure on the archive:
+ *
+ * - A call takes no memory but its stack, and of that under 12 KiB.
+ * - The archive needs `memset` alone from outside, and has no data that can be written. So threads may call at once, also the same
+ *   function: a call works on what it is lent and on its own stack. What one call changes is not to be lent to another meanwhile.
  */
 #ifndef CORKHOLLOW_H
 #define CORKHOLLOW_H
@@ -35,7 +44,8 @@ extern "C" {
 /* Why an operation was refused. Where a call breaks several rules, each function says below which it tries first. */
 enum corkhollow_refusal {
     CORKHOLLOW_OK = 0,
-    CORKHOLLOW_SHORT = 1,       /* a matrix file under 8 bytes or shorter than its length field, a program file under 14, an instruction cut short */
+    CORKHOLLOW_SHORT = 1,       /* a matrix file under 8 bytes or shorter than its length field, a program file under 14, an instruction
+                                   cut short */
     CORKHOLLOW_KIND = 2,        /* the first record is not of the kind expected */
     CORKHOLLOW_SIZE = 3,        /* rows, columns, weights, registers, inputs, outputs, instructions or output words outside the limits */
     CORKHOLLOW_LENGTH = 4,      /* a length field that is not what the header requires, or bytes left over */
@@ -68,7 +78,7 @@ enum corkhollow_refusal {
 #define CORKHOLLOW_MATRIX_LENGTH(rows, columns) (8 + (size_t)(rows) * CORKHOLLOW_WIDTH(columns))
 
 /* Buffers of these lengths are never too short: entries, a matrix file, a program file, the 64 strings of a batch. */
-#define CORKHOLLOW_MOST_ENTRIES (CORKHOLLOW_ROWS * CORKHOLLOW_COLUMNS)
+#define CORKHOLLOW_MOST_ENTRIES ((size_t)CORKHOLLOW_ROWS * CORKHOLLOW_COLUMNS)
 #define CORKHOLLOW_MOST_MATRIX_BYTES CORKHOLLOW_MATRIX_LENGTH(CORKHOLLOW_ROWS, CORKHOLLOW_COLUMNS)
 #define CORKHOLLOW_MOST_PROGRAM_BYTES (14 + 10 * (size_t)CORKHOLLOW_INSTRUCTIONS)
 #define CORKHOLLOW_MOST_STRING_BYTES (CORKHOLLOW_LANES * CORKHOLLOW_WIDTH(CORKHOLLOW_COLUMNS))
@@ -129,9 +139,9 @@ uint32_t corkhollow_check(const uint8_t *program, size_t program_length,
                           size_t *registers, size_t *inputs, size_t *outputs, uint32_t *count);
 
 /*
- * Starts a program: the whole program is checked, the registers and outputs that its header counts are set to 0, and it runs from instruction
- * 0 until `budget` instructions are carried out or none is left. Tells the position reached, the instructions carried out in this call, and
- * whether the program has finished. None of the three depends on the words.
+ * Starts a program: the whole program is checked, the registers and outputs that its header counts are set to 0, and it runs from
+ * instruction 0 until `budget` instructions are carried out or none is left. Tells the position reached, the instructions carried out in
+ * this call, and whether the program has finished. None of the three depends on the words.
  * Refusals, in the order tried: those of corkhollow_check; 13 for `inputs`, `registers` or `outputs`.
  */
 uint32_t corkhollow_start(const uint8_t *program, size_t program_length,
@@ -142,9 +152,10 @@ uint32_t corkhollow_start(const uint8_t *program, size_t program_length,
                           uint32_t *position, uint32_t *count, bool *finished);
 
 /*
- * Resumes a program, checked again, at a position and clears nothing: with program, inputs, registers and outputs as a stop left them it ends as the unbroken
- * run does. Input words that no instruction before the position reads may be filled in between. Tells what corkhollow_start tells, the
- * position in `position_out`.
+ * Resumes a program, checked again, at a position and clears nothing: with program, inputs, registers and outputs as a stop left them it
+ * ends as the unbroken run does. Input words that no instruction before the position reads may be filled in between. The saved registers
+ * and outputs may be put back into other buffers: only their first words, as many as the program has registers and outputs, must be those
+ * that the stop left. Tells what corkhollow_start tells, the position in `position_out`.
  * Refusals, in the order tried: those of corkhollow_check; 12; 13 for `inputs`, `registers` or `outputs`.
  */
 uint32_t corkhollow_resume(const uint8_t *program, size_t program_length,
@@ -165,8 +176,8 @@ uint32_t corkhollow_slice(size_t columns,
                           uint64_t *words, size_t words_length);
 
 /*
- * Reads 64 samples off output words: sample j is the number that bit j of words 1 and up spells, lowest first, where bit j of word 0 is set,
- * and otherwise CORKHOLLOW_MISS. All `outputs_length` words are read: lend as many as the program has outputs.
+ * Reads 64 samples off output words: sample j is the number that bit j of words 1 and up spells, lowest first, where bit j of word 0 is
+ * set, and otherwise CORKHOLLOW_MISS. All `outputs_length` words are read: lend as many as the program has outputs.
  * Refusals, in the order tried: 3 for the number of words, 13 for `samples` under 64.
  */
 uint32_t corkhollow_samples(const uint64_t *outputs, size_t outputs_length,

@@ -140,6 +140,15 @@ const uint64_t through_numbers[] = {
 };
 const size_t through_numbers_length = sizeof through_numbers / sizeof through_numbers[0];
 
+/* Lengths are of the type that the functions take. */
+#define IS_LENGTH(number) _Static_assert(_Generic((number), size_t: 1, default: 0), #number)
+IS_LENGTH(CORKHOLLOW_WIDTH(1));
+IS_LENGTH(CORKHOLLOW_MATRIX_LENGTH(1, 1));
+IS_LENGTH(CORKHOLLOW_MOST_ENTRIES);
+IS_LENGTH(CORKHOLLOW_MOST_MATRIX_BYTES);
+IS_LENGTH(CORKHOLLOW_MOST_PROGRAM_BYTES);
+IS_LENGTH(CORKHOLLOW_MOST_STRING_BYTES);
+
 size_t through_width(size_t columns)
 {
     return CORKHOLLOW_WIDTH(columns);

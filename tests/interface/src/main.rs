@@ -11,13 +11,14 @@ mod matrices;
 mod memory;
 mod numbers;
 mod programs;
+mod stack;
 mod table;
 mod trial;
 mod wrappers;
 
 use inputs::Stock;
 use reference::random::Random;
-use trial::{fail, Trial, ANSWERS};
+use trial::{fail, Trial, Tried, ANSWERS};
 
 const SEED: u64 = 20_260_101;
 
@@ -83,28 +84,41 @@ fn main() {
     wrappers::compare();
     let stock = Stock::new(&mut Random::new(seed));
     let numbers: Vec<String> = (1..ANSWERS).map(|refusal| refusal.to_string()).collect();
-    print_row("operation", "cases", "done", &numbers);
-    let mut calls = 0;
-    for operation in &OPERATIONS {
-        let trial = tried(operation, seed, &stock);
-        report(operation, &trial.answers);
+    print_row("operation", "stack", "cases", "done", &numbers);
+    let (mut calls, mut deepest) = (0, (0, ""));
+    for (operation, trial) in OPERATIONS.iter().zip(tried_at_once(seed, &stock)) {
+        report(operation, &trial);
         calls += trial.calls;
+        deepest = deepest.max((trial.depth, operation.name));
     }
-    println!("interface: {calls} calls, no difference");
+    let (depth, name) = deepest;
+    println!("interface: {calls} calls, no difference; at most {depth} bytes of stack ({name})");
+}
+
+/// Tries all operations, each in a thread of its own: the header says that threads may call at once.
+fn tried_at_once(seed: u64, stock: &Stock) -> Vec<Tried> {
+    std::thread::scope(|threads| {
+        let begin = |operation| threads.spawn(move || tried(operation, seed, stock));
+        let begun: Vec<_> = OPERATIONS.iter().map(begin).collect();
+        let ended = begun.into_iter().map(|thread| thread.join());
+        let whole = ended.map(|tried| tried.unwrap_or_else(|_| fail("a trial panicked")));
+        whole.collect()
+    })
 }
 
 /// Tries all cases of one operation.
-fn tried(operation: &Operation, seed: u64, stock: &Stock) -> Trial {
+fn tried(operation: &Operation, seed: u64, stock: &Stock) -> Tried {
     let mut trial = Trial::new(operation.name, seed);
     for case in 0..operation.cases {
         let mut random = trial.begin(case);
         (operation.one_case)(&mut trial, &mut random, stock);
     }
-    trial
+    trial.tried
 }
 
-/// Prints how many cases were tried, and how many of them were done and refused with each number.
-fn report(operation: &Operation, answers: &[usize; ANSWERS]) {
+/// Prints the most stack that a call took, how many cases were tried, and how many of them were done and refused with each number.
+fn report(operation: &Operation, trial: &Tried) {
+    let answers = &trial.answers;
     let text = |&number: &usize| match number {
         0 => "-".to_string(),
         _ => number.to_string(),
@@ -113,6 +127,7 @@ fn report(operation: &Operation, answers: &[usize; ANSWERS]) {
     let cases: usize = answers.iter().sum();
     print_row(
         operation.name,
+        &trial.depth.to_string(),
         &cases.to_string(),
         &text(&answers[0]),
         &refused,
@@ -120,9 +135,9 @@ fn report(operation: &Operation, answers: &[usize; ANSWERS]) {
     require_enough(operation, answers);
 }
 
-fn print_row(name: &str, cases: &str, done: &str, refused: &[String]) {
+fn print_row(name: &str, stack: &str, cases: &str, done: &str, refused: &[String]) {
     let refused: String = refused.iter().map(|text| format!(" {text:>5}")).collect();
-    println!("{name:16} {cases:>6} {done:>6} {refused}");
+    println!("{name:16} {stack:>6} {cases:>6} {done:>6} {refused}");
 }
 
 /// Every answer that an operation has was met often enough, and no other at all.

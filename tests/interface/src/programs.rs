@@ -77,6 +77,23 @@ impl Words {
             outputs: words(8, MOST_OUTPUTS),
         }
     }
+
+    /// The first of them, as many as the header of a sound file counts.
+    fn front(mut self, file: &[u8]) -> Self {
+        self.registers.truncate(field_or_0(file, 4));
+        self.inputs.truncate(field_or_0(file, 6));
+        self.outputs.truncate(field_or_0(file, 8));
+        self
+    }
+
+    /// The first of them put back into other buffers, which go on with anything.
+    fn put_back(self, random: &mut Random, file: &[u8]) -> Self {
+        let (front, mut other) = (self.front(file), Words::some(random, file, usize::MAX));
+        other.registers[..front.registers.len()].copy_from_slice(&front.registers);
+        other.inputs[..front.inputs.len()].copy_from_slice(&front.inputs);
+        other.outputs[..front.outputs.len()].copy_from_slice(&front.outputs);
+        other
+    }
 }
 
 impl Run {
@@ -229,7 +246,7 @@ fn take(trial: &mut Trial, run: Run) -> Left {
     }
 }
 
-/// A start that is resumed, with what each call left, until it has finished: it ends as the unbroken run does.
+/// A start that is resumed, with what each call left put back into other buffers, until it has finished: it ends as the unbroken run does.
 pub fn stops(trial: &mut Trial, random: &mut Random, stock: &Stock) {
     let file = loop {
         let file = program(random, stock);
@@ -253,12 +270,13 @@ pub fn stops(trial: &mut Trial, random: &mut Random, stock: &Stock) {
         let part = some_budget(random, count / 4);
         let budget = if step < 6 { part } else { u32::MAX };
         memory = Memory::new(random);
-        let run = Run::lend(&mut memory, &file, &left.words);
+        let run = Run::lend(&mut memory, &file, &left.words.put_back(random, &file));
         run.resume(trial, &mut memory, left.position, budget);
         left = take(trial, run);
         counted += left.count;
     }
-    if left.words != unbroken.words || left.position != count || counted != count {
+    let (words, wanted) = (left.words.front(&file), unbroken.words.front(&file));
+    if words != wanted || left.position != count || counted != count {
         trial.differ(
             &memory,
             "both",

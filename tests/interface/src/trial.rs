@@ -1,6 +1,7 @@
 //! One operation on trial: each case is given to the reference and, both ways, to the engine, and all that they leave is compared.
 
 use crate::memory::{Memory, View};
+use crate::stack::{Stack, LIMIT};
 use crate::table::{Table, TABLES};
 use reference::lent::DONE;
 use reference::random::Random;
@@ -14,14 +15,23 @@ pub fn fail(what: &str) -> ! {
     std::process::exit(1)
 }
 
-pub struct Trial {
-    operation: &'static str,
-    seed: u64,
-    case: u64,
+/// What was tried.
+#[derive(Default)]
+pub struct Tried {
     /// How many calls of the engine there were.
     pub calls: usize,
     /// How many comparisons ended with each number.
     pub answers: [usize; ANSWERS],
+    /// The most bytes of stack that a call took.
+    pub depth: usize,
+}
+
+pub struct Trial {
+    operation: &'static str,
+    seed: u64,
+    case: u64,
+    pub tried: Tried,
+    stack: Stack,
     expected: Vec<u64>,
     actual: Vec<u64>,
 }
@@ -32,8 +42,8 @@ impl Trial {
             operation,
             seed,
             case: 0,
-            calls: 0,
-            answers: [0; ANSWERS],
+            tried: Tried::default(),
+            stack: Stack::new(),
             expected: Vec::new(),
             actual: Vec::new(),
         }
@@ -61,11 +71,18 @@ impl Trial {
         let returned = reference(View::of(&mut self.expected));
         for table in &TABLES {
             self.actual.clone_from(&memory.block);
-            let answered = engine(table, View::of(&mut self.actual));
-            self.calls += 1;
+            let view = View::of(&mut self.actual);
+            let mut answered = 0;
+            let depth = self.stack.depth(|| answered = engine(table, view));
+            self.tried.calls += 1;
             self.judge(memory, table.way, returned, answered);
+            self.tried.depth = self.tried.depth.max(depth);
+            if depth >= LIMIT {
+                let deep = format!("{depth} bytes of stack, and the limit is {LIMIT}");
+                self.differ(memory, table.way, &deep);
+            }
         }
-        self.answers[returned as usize] += 1;
+        self.tried.answers[returned as usize] += 1;
         returned
     }
 

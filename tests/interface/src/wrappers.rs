@@ -58,6 +58,7 @@ pub fn compare() {
     both("draw_signed", |sound| {
         draw_signed(&or_less(sound, &program))
     });
+    overlaps();
     words();
 }
 
@@ -150,14 +151,18 @@ const REGISTERS: [u64; 20] = [0x7777; 20];
 const OUTPUTS: [u64; 4] = [0x5555; 4];
 
 fn start(program: &[u8]) -> bool {
+    start_on(program, &INPUTS)
+}
+
+fn start_on(program: &[u8], inputs: &[u64]) -> bool {
     let (mut registers, mut outputs) = (REGISTERS, OUTPUTS);
-    let answer = binding::start(program, &INPUTS, &mut registers, &mut outputs, 20);
+    let answer = binding::start(program, inputs, &mut registers, &mut outputs, 20);
     let left = (registers, outputs);
     let (mut registers, mut outputs) = (REGISTERS, OUTPUTS);
     let (mut position, mut count, mut finished) = (0, 0, false);
     let returned = lent::start(
         program,
-        &INPUTS,
+        inputs,
         &mut registers,
         &mut outputs,
         20,
@@ -178,14 +183,18 @@ fn start(program: &[u8]) -> bool {
 }
 
 fn resume(program: &[u8], from: u32) -> bool {
+    resume_on(program, &INPUTS, from)
+}
+
+fn resume_on(program: &[u8], inputs: &[u64], from: u32) -> bool {
     let (mut registers, mut outputs) = (REGISTERS, OUTPUTS);
-    let answer = binding::resume(program, &INPUTS, &mut registers, &mut outputs, from, 5);
+    let answer = binding::resume(program, inputs, &mut registers, &mut outputs, from, 5);
     let left = (registers, outputs);
     let (mut registers, mut outputs) = (REGISTERS, OUTPUTS);
     let (mut position, mut count, mut finished) = (0, 0, false);
     let returned = lent::resume(
         program,
-        &INPUTS,
+        inputs,
         &mut registers,
         &mut outputs,
         from,
@@ -241,17 +250,55 @@ fn signed_samples(number: usize) -> bool {
 }
 
 fn draw(program: &[u8]) -> bool {
+    draw_on(program, &strings())
+}
+
+fn draw_on(program: &[u8], strings: &[u8]) -> bool {
     let (mut left, mut wanted) = ([7; 66], [7; 66]);
-    let answer = binding::draw(program, &strings(), &mut left);
-    let returned = lent::draw(program, &strings(), &mut wanted);
+    let answer = binding::draw(program, strings, &mut left);
+    let returned = lent::draw(program, strings, &mut wanted);
     same("draw", (answer, left), (returned, (), wanted))
 }
 
 fn draw_signed(program: &[u8]) -> bool {
+    draw_signed_on(program, &strings())
+}
+
+fn draw_signed_on(program: &[u8], strings: &[u8]) -> bool {
     let (mut left, mut wanted) = ([7; 66], [7; 66]);
-    let answer = binding::draw_signed(program, &strings(), SIGN, &mut left);
-    let returned = lent::draw_signed(program, &strings(), SIGN, &mut wanted);
+    let answer = binding::draw_signed(program, strings, SIGN, &mut left);
+    let returned = lent::draw_signed(program, strings, SIGN, &mut wanted);
     same("draw_signed", (answer, left), (returned, (), wanted))
+}
+
+/// Buffers that are only read may overlap: here a file is also the string, the strings or the input words that go with it.
+fn overlaps() {
+    let table = Matrix::from_texts(&["10011010", "00110101", "00100001"]);
+    let file = table.encode();
+    let mut row = 0;
+    let returned = lent::walk(&file, &file, &mut row);
+    let walked = binding::walk(&file, &file);
+    let row = (row != usize::from(binding::MISS)).then_some(row);
+    done(same("walk", (walked, ()), (returned, row, ())));
+    let program = translate(&table).encode();
+    done(draw_on(&program, &program));
+    done(draw_signed_on(&program, &program));
+    let mut words = vec![0; program.len().div_ceil(8)];
+    // SAFETY: the words have these bytes, and any bytes are words.
+    unsafe {
+        let bytes: *mut u8 = words.as_mut_ptr().cast();
+        bytes.copy_from_nonoverlapping(program.as_ptr(), program.len());
+        let program = std::slice::from_raw_parts(bytes, program.len());
+        done(start_on(program, &words));
+        done(resume_on(program, &words, 9));
+    }
+}
+
+/// The reference took the buffers.
+fn done(taken: bool) {
+    if !taken {
+        fail("overlaps: not the inputs that are wanted");
+    }
 }
 
 /// Each refusal has words of its own.
