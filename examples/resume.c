@@ -1,6 +1,7 @@
 /*
- * A run that is stopped because the random source is exhausted, and resumed when it delivers again: on the same words the samples are those of
- * the run without a stop. What has to be kept from stop to resume is the position, the registers, the outputs and the words already read.
+ * A run that is stopped because the random source is exhausted, and resumed when it delivers again: on the same words the samples are
+ * those of the run without a stop. What has to be kept from stop to resume is the position, the registers, the outputs and the words
+ * already read.
  */
 #include <inttypes.h>
 #include <string.h>
@@ -141,12 +142,13 @@ int main(void) {
     printf("\n%d of %d samples agree; registers, outputs and instructions in all: %s\n", CORKHOLLOW_LANES - differ, CORKHOLLOW_LANES,
            same ? "the same" : "DIFFERENT");
 
-    /* A fresh register file has lost where each lane stands, so that no lane hits a row any more. */
+    /* The mistake of a fresh register file: it has lost where each lane stands, so that no lane hits a row any more. */
     uint32_t position = cleared.position;
     resume(&program, words, &cleared, UINT32_MAX);
     read_samples(&program, &cleared, wrong);
-    printf("warning: resumed at %" PRIu32 " with cleared registers, %d of %d samples differ\n", position, differing(wrong, without),
-           CORKHOLLOW_LANES);
+    printf("for contrast: clearing the registers at %" PRIu32 " would change %d of %d samples; "
+           "the engine's resume does not make that mistake\n",
+           position, differing(wrong, without), CORKHOLLOW_LANES);
     flush_output();
     return differ > 0 || !same;
 }
