@@ -9,7 +9,7 @@
 #include "corkhollow.h"
 
 /* Ends the program where a call was refused. The number is the one that the call returned. */
-static void must(const char *call, uint32_t refusal) {
+static inline void must(const char *call, uint32_t refusal) {
     static const char *const names[] = {"OK",          "SHORT",   "KIND",      "SIZE",  "LENGTH",     "BIT",      "SUM",
                                         "INSTRUCTION", "OPERAND", "UNWRITTEN", "UNSET", "WEIGHTLESS", "POSITION", "BUFFER"};
     if (refusal == CORKHOLLOW_OK) return;
@@ -18,7 +18,7 @@ static void must(const char *call, uint32_t refusal) {
     exit(1);
 }
 
-static FILE *open_random(void) {
+static inline FILE *open_random(void) {
     FILE *source = fopen("/dev/urandom", "rb");
     if (!source) {
         perror("/dev/urandom");
@@ -27,7 +27,7 @@ static FILE *open_random(void) {
     return source;
 }
 
-static void fill(FILE *source, void *to, size_t bytes) {
+static inline void fill(FILE *source, void *to, size_t bytes) {
     if (fread(to, 1, bytes, source) != bytes) {
         fprintf(stderr, "/dev/urandom: no more bytes\n");
         exit(1);
@@ -35,7 +35,7 @@ static void fill(FILE *source, void *to, size_t bytes) {
 }
 
 /* Ends the program where the output could not be written, as on a full disk. */
-static void flush_output(void) {
+static inline void flush_output(void) {
     if (fflush(stdout) == 0 && !ferror(stdout)) return;
     perror("standard output");
     exit(1);

@@ -1,70 +1,53 @@
 /*
- * Signed samples on a bell curve: builds a table from weights, compiles it, draws 1,000,000 samples from /dev/urandom, and prints how often
- * each came beside how often the table says. The progress goes to standard error.
+ * Signed samples on a bell curve: makes the exact table of a discrete Gaussian, compiles it, draws 1,000,000 samples from /dev/urandom, and
+ * prints how often each came beside how often the table says. The progress goes to standard error, where that is a terminal.
  */
+#define _POSIX_C_SOURCE 200809L
+#include <inttypes.h>
 #include <math.h>
 #include <string.h>
+#include <unistd.h>
 
 #include "common.h"
+#include "gaussian.h"
 
-#define SIGMA 6.0
+#define SIGMA "6.15543"
 
 enum {
-    ROWS = 40,    /* distances 0 to 39; the weight of 40 would be below 1 */
-    COLUMNS = 64, /* a multiple of 8, so that a string has no spare bits to clear */
-    MOST = ROWS - 1,
-    VALUES = 2 * MOST + 1, /* -39 to 39; value v is counted at MOST + v */
+    COLUMNS = 128, /* a multiple of 8, so that a string has no spare bits to clear */
+    MOST = CORKHOLLOW_ROWS - 1,
+    VALUES = 2 * MOST + 1, /* value v is counted at MOST + v */
     SAMPLES = 1000000,
     BATCHES = SAMPLES / CORKHOLLOW_LANES,
     BAR = 50,
     FEW = 100 /* values that are expected less often share one line at each end: so small a count says little */
 };
 
-_Static_assert(COLUMNS == 64, "the strings of a row are counted in 64 bits");
 _Static_assert(SAMPLES % CORKHOLLOW_LANES == 0, "a batch is drawn whole");
 
+static uint8_t entries[CORKHOLLOW_MOST_ENTRIES]; /* the table's, a byte of 0 or 1 each, row after row */
 static uint8_t program[CORKHOLLOW_MOST_PROGRAM_BYTES];
 static double expected[VALUES];
 static uint32_t drawn[VALUES];
 
-/* The sign makes two values of each distance but 0. Half a weight for 0 makes up for it. */
-static void weigh(uint32_t *weights) {
-    for (int v = 0; v < ROWS; v++) weights[v] = (uint32_t)(exp(-v * v / (2 * SIGMA * SIGMA)) * 2147483648.0);
-    weights[0] /= 2;
-}
-
-/* The number that a row of 64 entries spells, column 0 highest. */
-static uint64_t spelled(const uint8_t *row) {
-    uint64_t number = 0;
-    for (int c = 0; c < COLUMNS; c++) number = number << 1 | row[c];
-    return number;
-}
-
-/* The proportions that the matrix itself gives, which is what the engine promises; tells how many of the 2^64 strings miss. */
-static uint64_t expect(const uint8_t *matrix, size_t length) {
-    static uint8_t entries[ROWS * COLUMNS];
-    size_t rows, columns;
-    must("corkhollow_read", corkhollow_read(matrix, length, entries, sizeof entries, &rows, &columns));
-    uint64_t hits = 0;
-    for (int v = 0; v < ROWS; v++) {
-        uint64_t strings = spelled(entries + v * COLUMNS);
-        double proportion = ldexp((double)strings, -COLUMNS);
-        expected[MOST + v] = expected[MOST - v] = v == 0 ? proportion : proportion / 2;
-        hits += strings;
-    }
-    return 0 - hits; /* 2^64 - hits, as the hits are between 1 and 2^64 */
-}
-
-/* Builds the table and compiles it; tells the program's length. */
-static size_t prepare(uint64_t *missing) {
-    uint32_t weights[ROWS];
-    uint8_t matrix[CORKHOLLOW_MATRIX_LENGTH(ROWS, COLUMNS)];
+/* Makes the table and compiles it; tells its rows and the program's length. */
+static size_t prepare(size_t *rows) {
+    uint8_t matrix[CORKHOLLOW_MOST_MATRIX_BYTES];
     size_t matrix_length, length;
-    weigh(weights);
-    must("corkhollow_build", corkhollow_build(weights, ROWS, COLUMNS, true, matrix, sizeof matrix, &matrix_length));
+    *rows = gaussian_table(SIGMA, COLUMNS, entries);
+    must("corkhollow_write",
+         corkhollow_write(*rows, COLUMNS, entries, sizeof entries, matrix, sizeof matrix, &matrix_length));
     must("corkhollow_compile", corkhollow_compile(matrix, matrix_length, program, sizeof program, &length));
-    *missing = expect(matrix, matrix_length);
     return length;
+}
+
+/* The proportions that the table itself gives, which is what the engine promises: an entry in column 0 is worth 1/2, in column 1 1/4, .. */
+static void expect(size_t rows) {
+    for (size_t v = 0; v < rows; v++) {
+        double proportion = 0;
+        for (int c = COLUMNS - 1; c >= 0; c--) proportion = (proportion + entries[v * COLUMNS + (size_t)c]) / 2;
+        expected[MOST + v] = expected[MOST - v] = v == 0 ? proportion : proportion / 2;
+    }
 }
 
 /* Counts 64 samples; tells the misses among them. No other number than those of the table is ever given. */
@@ -77,12 +60,19 @@ static int count(const int16_t *samples) {
     return missed;
 }
 
+/* Rewrites the progress line where the percentage is a new one; not into a file or a pipe. */
+static void progress(int batch) {
+    int percent = batch * 100 / BATCHES;
+    if (percent == (batch - 1) * 100 / BATCHES || !isatty(STDERR_FILENO)) return;
+    fprintf(stderr, "\rdrawing %3d%%%s", percent, batch == BATCHES ? "\n" : "");
+}
+
 /* Every batch takes fresh strings and a fresh sign word. Tells the misses. */
 static int draw(size_t length) {
     uint8_t strings[CORKHOLLOW_LANES * CORKHOLLOW_WIDTH(COLUMNS)];
     uint64_t sign;
     int16_t samples[CORKHOLLOW_LANES];
-    int missed = 0, percent = -1;
+    int missed = 0;
     FILE *source = open_random();
     for (int batch = 1; batch <= BATCHES; batch++) {
         fill(source, strings, sizeof strings);
@@ -90,11 +80,8 @@ static int draw(size_t length) {
         must("corkhollow_draw_signed",
              corkhollow_draw_signed(program, length, strings, sizeof strings, sign, samples, CORKHOLLOW_LANES));
         missed += count(samples);
-        if (batch * 100 / BATCHES == percent) continue;
-        percent = batch * 100 / BATCHES;
-        fprintf(stderr, "\rdrawing %3d%%", percent);
+        progress(batch);
     }
-    fprintf(stderr, "\n");
     fclose(source);
     return missed;
 }
@@ -154,13 +141,14 @@ static void print_chart(void) {
 }
 
 int main(void) {
-    uint64_t missing;
-    size_t length = prepare(&missing);
+    size_t rows, length = prepare(&rows);
+    expect(rows);
     int missed = draw(length);
-    printf("%d signed samples, sigma %g, from a table of %d rows and %d columns\n\n", SAMPLES, SIGMA, ROWS, COLUMNS);
+    printf("%d signed samples, sigma %s, from an exact table of %zu rows and %d columns\n\n", SAMPLES, SIGMA, rows, COLUMNS);
     print_chart();
-    printf("misses: %d drawn; %llu of the 2^64 strings miss, a proportion of %.1e\n", missed, (unsigned long long)missing,
-           ldexp((double)missing, -COLUMNS));
+    uint64_t misses = gaussian_misses(entries, rows, COLUMNS);
+    printf("misses: %d drawn; %" PRIu64 " of the 2^%d strings miss, a proportion of %.1e\n", missed, misses, COLUMNS,
+           ldexp((double)misses, -COLUMNS));
     flush_output();
     return 0;
 }

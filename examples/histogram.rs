@@ -1,5 +1,5 @@
-//! Plain samples, the totals of two loaded dice: builds a table from weights, compiles it, draws 1,000,000 samples from /dev/urandom, and prints
-//! how often each came beside how often the table says. The progress goes to standard error.
+//! Plain samples, the totals of two loaded dice: builds a table from weights, compiles it, draws 1,000,000 samples from /dev/urandom, and
+//! prints how often each came beside how often the table says. The progress goes to standard error, where that is a terminal.
 //!
 //! The table has few columns, so that what it cannot share out evenly shows: some strings miss.
 
@@ -9,7 +9,7 @@ mod corkhollow;
 use corkhollow::{LANES, MISS, MOST_MATRIX_BYTES, MOST_PROGRAM_BYTES};
 use std::error::Error;
 use std::fs::File;
-use std::io::{self, BufReader, Read, Write};
+use std::io::{self, BufReader, IsTerminal, Read, Write};
 use std::process::ExitCode;
 
 /// How likely each face of a die is: the six is twice as likely as any other.
@@ -77,17 +77,17 @@ fn draw(program: &[u8]) -> Result<Each<usize>, Box<dyn Error>> {
                 v => drawn.totals[usize::from(v)] += 1,
             }
         }
-        progress(batch);
+        progress(batch + 1);
     }
-    eprintln!();
     Ok(drawn)
 }
 
-/// Rewrites the progress line where the percentage is a new one.
+/// Rewrites the progress line where the percentage is a new one; not into a file or a pipe.
 fn progress(batch: usize) {
-    let percent = (batch + 1) * 100 / BATCHES;
-    if percent != batch * 100 / BATCHES {
-        eprint!("\rdrawing {percent:3}%");
+    let percent = batch * 100 / BATCHES;
+    if percent != (batch - 1) * 100 / BATCHES && io::stderr().is_terminal() {
+        let end = if batch == BATCHES { "\n" } else { "" };
+        eprint!("\rdrawing {percent:3}%{end}");
     }
 }
 
