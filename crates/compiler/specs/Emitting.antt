@@ -6,10 +6,10 @@ use native.Mathlib.Nat.{add-zero}
 use native.Mathlib.Omega.{arith}
 use lib.ListN.{length, length-append}
 use Rattle.laws.specs.Lay.{blocks, blocks-more, layAt, layAt-nothing, layAt-after, length-layAt}
+use Rattle.laws.specs.Outcome.{laid}
 use Rattle.programs.specs.Limits.{most-registers, most-outputs}
-use Rattle.programs.specs.Records.{placed, placed-room}
-use Rattle.programs.specs.Instructions.{lengthOf, instructionBytes}
-use Rattle.programs.specs.Reading.{length-instruction}
+use Rattle.programs.specs.Instructions.{lengthOf, instructionBytes, encodeOf}
+use Rattle.programs.specs.Reading.{length-instruction, encode-gives}
 use Rattle.programs.specs.Header.{codeBytes}
 use Rattle.programs.specs.declared.description.Instruction.{Instruction}
 
@@ -69,11 +69,11 @@ unfolding codeBytes
 emitted-none at buf h = record { long = refl; room = h; behind = omega arith; laid = layAt-nothing at buf }
 
 pub emitted-one : (at : ℕ) (i : Instruction) (long : ℕ) (buf now : List ℕ) → long ≡ lengthOf i → at + lengthOf i ≤ length buf →
-    now ≡ placed at (instructionBytes i) buf → Emitted at (i ∷ []) buf now (at + long)
+    now ≡ layAt at (laid (λ bytes. bytes) (encodeOf i at (length buf))) buf → Emitted at (i ∷ []) buf now (at + long)
 unfolding codeBytes
 emitted-one at i long buf now k h e =
     let l : at + length (instructionBytes i) ≤ length buf = omega (arith, length-instruction i) in
-    let q : now ≡ layAt at (instructionBytes i) buf = e ∙ placed-room at (instructionBytes i) buf l in
+    let q : now ≡ layAt at (instructionBytes i) buf = rw (encode-gives i at (length buf) h) at e in
     record {
       long = ap length q ∙ length-layAt at (instructionBytes i) buf l;
       room = omega arith;

@@ -4,18 +4,18 @@ use mathlib.Core.Path.{_≡_, sym, ap, _∙_}
 use mathlib.Core.Bool.{true}
 use mathlib.Core.List.{List, _++_}
 use native.Mathlib.Omega.{arith}
-use borrow.Author.Tests.{lt-ltb, le-ltb, le-leb}
+use borrow.Author.Tests.{lt-ltb, le-ltb}
 use lib.ListN.{length, drop, length-append}
 use Rattle.laws.specs.Lay.{blocks, lay, layAt, lay-is, layAt-after}
-use Rattle.laws.specs.Outcome.{refused, gives, mapped, mapped-gives, mapped-refused}
+use Rattle.laws.specs.Outcome.{refused, gives, mapped, laid, mapped-gives, mapped-refused}
 use Rattle.files.specs.Fields.{width, bit-le}
 use Rattle.files.specs.Matrix.{Accepted, sizes, bit, most-rows, most-columns}
 use Rattle.files.specs.Files.{matrixOf, unpacked}
 use Rattle.files.specs.Checks.{unpacked-bit, matrix-read, checked-whole}
 use Rattle.files.specs.RoundTrip.{read-accepted}
 use Rattle.programs.specs.Limits.{most-instructions, within}
-use Rattle.programs.specs.Reading.{Within, within-means, header-long}
-use Rattle.programs.specs.Header.{header-length, headerBytes, headerPlaced, codeBytes, programFile}
+use Rattle.programs.specs.Reading.{Within, within-means, header-long, write-header-gives}
+use Rattle.programs.specs.Header.{header-length, headerBytes, writeHeaderOf, codeBytes, programFile}
 use Rattle.programs.specs.declared.description.Program.{Program}
 use Rattle.programs.specs.declared.description.Instruction.{Instruction}
 use Rattle.compiler.specs.Translation.{rowBits, begin, end, column, compiled, compileOf}
@@ -92,30 +92,29 @@ planned bytes m n k count long room p s h =
     }
 
 -- ---- the program is written: its header, then its instructions
-header-laid : (p : Program) (buf : List ℕ) → within p ≡ true → header-length ≤ length buf → headerPlaced p buf ≡ layAt 0 (headerBytes p) buf
-unfolding headerPlaced
-header-laid p buf w h = rw (w, le-leb header-length (length buf) h)
-
 file-written : (p : Program) (is : List Instruction) (buf head now : List ℕ) (next : ℕ) → within p ≡ true → header-length ≤ length buf →
-    head ≡ headerPlaced p buf → Emitted header-length is head now next → now ≡ lay (programFile p is) buf
+    head ≡ lay (laid (λ bytes. bytes) (writeHeaderOf p (length buf))) buf → Emitted header-length is head now next →
+    now ≡ lay (programFile p is) buf
 unfolding programFile
 file-written p is buf head now next w h e a =
     let long : 0 + length (headerBytes p) ≡ header-length = omega (arith, header-long p) in
+    let q : head ≡ lay (headerBytes p) buf = rw (write-header-gives p (length buf) w h) at e in
     a .laid ∙
-    (ap (layAt header-length (codeBytes is)) (e ∙ header-laid p buf w h) ∙
+    (ap (layAt header-length (codeBytes is)) (q ∙ sym (lay-is (headerBytes p) buf)) ∙
     (ap (λ (i : ℕ). layAt i (codeBytes is) (layAt 0 (headerBytes p) buf)) (sym long) ∙
     (layAt-after 0 (headerBytes p) (codeBytes is) buf (omega (arith, header-long p)) ∙ lay-is (headerBytes p ++ codeBytes is) buf)))
 
 -- all of it, as measured
 pub program-written : (bytes : List ℕ) (m n k count long : ℕ) (p : Program) (buf : List ℕ) {at at′ next : ℕ} {head b1 b2 now : List ℕ} →
-    Measured bytes m n k count long → Planned bytes m n k count (length buf) → p ≡ described k m n count → head ≡ headerPlaced p buf →
+    Measured bytes m n k count long → Planned bytes m n k count (length buf) → p ≡ described k m n count →
+    head ≡ lay (laid (λ bytes. bytes) (writeHeaderOf p (length buf))) buf →
     Emitted header-length (begin k) head b1 at → Emitted at (blocks n (column k m (packedRows bytes (width n)))) b1 b2 at′ →
     Emitted at′ (end k) b2 now next → now ≡ lay (compiled (packedMatrix bytes m n)) buf
 unfolding whole
 program-written bytes m n k count long p buf {next = next} {head = head} {now = now} s l q e a b c =
     rw (compiled-packed bytes m n k count (s .bits) (s .columns))
     (file-written (described k m n count) (whole k m n (packedRows bytes (width n))) buf head now next (l .limits) (omega (arith, l .parts))
-    (e ∙ ap (λ (x : Program). headerPlaced x buf) q) (emitted-after (emitted-after a b) c))
+    (rw q at e) (emitted-after (emitted-after a b) c))
 
 -- ---- the ways through the checks
 pub compile-refused : (file : List ℕ) (room n : ℕ) → refused n ≡ mapped sizes (matrixOf file) → compileOf file room ≡ refused n

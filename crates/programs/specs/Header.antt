@@ -1,10 +1,9 @@
 -- 01, "Files": the header of a program, its bytes, and reading one at the front of a file. Assumes nothing.
 use Prim.Native.Nat.{ℕ, _+_, _*_, _/_, _%_}
-use mathlib.Core.Bool.{not, cond, _&&_}
+use mathlib.Core.Bool.{not}
 use mathlib.Core.List.{List, [], _∷_, _++_}
-use lib.Dec.{eqb, ltb, leb}
+use lib.Dec.{eqb, ltb}
 use lib.ListN.{length}
-use Rattle.laws.specs.Lay.{layAt}
 use Rattle.laws.specs.Outcome.{Outcome, refused, gives, refuse, _>>_, _>>=_}
 use Rattle.files.specs.Fields.{fieldOf}
 use Rattle.files.specs.Refusal.{numberOf}
@@ -42,9 +41,12 @@ headerOf file = do
   refuse 4 (not (eqb (fieldOf file 0) header-length))
   gives (numbersOf file)
 
--- a header written at the front of a buffer, where it is within the limits and has room
-unfoldable pub headerPlaced : Program → List ℕ → List ℕ
-headerPlaced p buf = cond (within p && leb header-length (length buf)) (layAt 0 (headerBytes p) buf) buf
+-- writing a header at the front of a buffer of `room` bytes: the bytes that are laid down
+unfoldable pub writeHeaderOf : Program → ℕ → Outcome (List ℕ)
+writeHeaderOf p room = do
+  refuse 3 (not (within p))
+  refuse 13 (ltb room header-length)
+  gives (headerBytes p)
 
 -- the bytes of instructions, one after another
 unfoldable pub codeBytes : List Instruction → List ℕ

@@ -1,5 +1,5 @@
 -- 01, "Files": the seven instructions, their bytes, and reading one at the front of some bytes. Assumes nothing.
-use Prim.Native.Nat.{ℕ}
+use Prim.Native.Nat.{ℕ, _+_}
 use mathlib.Core.Bool.{not, cond}
 use mathlib.Core.List.{List, [], _∷_}
 use lib.Dec.{eqb, ltb}
@@ -73,6 +73,12 @@ uses (Output o a) = record { reads = a ∷ []; writes = []; takes = []; sets = o
 -- an instruction: length, kind and operands
 unfoldable pub instructionBytes : Instruction → List ℕ
 instructionBytes i = recordBytes (lengthOf i ∷ kindOf i ∷ operandsOf i)
+
+-- writing an instruction at byte `at` of a buffer of `room` bytes: the bytes that are laid down there
+unfoldable pub encodeOf : Instruction → ℕ → ℕ → Outcome (List ℕ)
+encodeOf i at room = do
+  refuse 13 (ltb room (at + lengthOf i))
+  gives (instructionBytes i)
 
 -- an instruction whose length field must be its kind's
 unfoldable pub sizedOf : ℕ → Instruction → Outcome Instruction

@@ -1,21 +1,21 @@
 -- The ways through the checks of an instruction and of a header. Assumes nothing.
 use Prim.Native.Nat.{ℕ, _+_, _*_, _≤_, _<_}
 use mathlib.Core.Path.{_≡_, refl, sym, ap, _∙_}
-use mathlib.Core.Bool.{true, false, _&&_}
+use mathlib.Core.Bool.{true, false}
 use mathlib.Core.List.{List}
 use native.Mathlib.Omega.{arith}
-use borrow.Author.Tests.{lt-ltb, le-ltb, le-leb, lt-leb, eq-eqb, ne-eqb, leb-true}
+use borrow.Author.Tests.{lt-ltb, le-ltb, eq-eqb, ne-eqb, leb-true}
 use lib.Dec.{leb}
 use lib.ListN.{length, take, drop, length-drop}
 use lib.Seq.{take-all}
 use Rattle.laws.specs.Tests.{both}
-use Rattle.laws.specs.Lay.{layAt}
-use Rattle.laws.specs.Outcome.{Outcome, refused, gives, _>>_, _>>=_}
+use Rattle.laws.specs.Lay.{layAt, layAt-nothing}
+use Rattle.laws.specs.Outcome.{Outcome, refused, gives, mapped, laid, _>>_, _>>=_}
 use Rattle.files.specs.Fields.{fieldOf}
 use Rattle.programs.specs.Limits.{most-registers, most-inputs, most-outputs, most-instructions, among, within}
-use Rattle.programs.specs.Records.{recordBytes, placed, placed-room, placed-not}
-use Rattle.programs.specs.Instructions.{ofKind, sizedOf, lengthOf, instructionBytes, decodeOf, decodeAt}
-use Rattle.programs.specs.Header.{header-length, header-kind, headerBytes, headerOf, headerPlaced, numbersOf}
+use Rattle.programs.specs.Records.{recordBytes}
+use Rattle.programs.specs.Instructions.{ofKind, sizedOf, lengthOf, instructionBytes, encodeOf, decodeOf, decodeAt}
+use Rattle.programs.specs.Header.{header-length, header-kind, headerBytes, headerOf, writeHeaderOf, numbersOf}
 use Rattle.programs.specs.declared.description.Program.{Program}
 use Rattle.programs.specs.declared.description.Instruction.{Instruction}
 use Rattle.programs.specs.declared.description.Instruction.the-variants.{Ones, Zero, Input, Not, And, Or, Output}
@@ -69,15 +69,20 @@ pub header-long : (p : Program) → length (headerBytes p) ≡ header-length
 unfolding headerBytes recordBytes
 header-long p = refl
 
-module _ (i : Instruction) (at : ℕ) (buf : List ℕ) where
-  pub encode-no-room : length buf < at + lengthOf i → (false ≡ leb (at + lengthOf i) (length buf)) × (buf ≡ placed at (instructionBytes i) buf)
-  encode-no-room h =
-      (sym (lt-leb (at + lengthOf i) (length buf) h), sym (placed-not at (instructionBytes i) buf (rw (length-instruction i) h)))
+pub encode-gives : (i : Instruction) (at room : ℕ) → at + lengthOf i ≤ room → encodeOf i at room ≡ gives (instructionBytes i)
+unfolding encodeOf
+encode-gives i at room h = rw (le-ltb room (at + lengthOf i) h)
 
-  pub encode-room : (now : List ℕ) → at + lengthOf i ≤ length buf → now ≡ layAt at (instructionBytes i) buf →
-      (true ≡ leb (at + lengthOf i) (length buf)) × (now ≡ placed at (instructionBytes i) buf)
-  encode-room now h e =
-      (sym (le-leb (at + lengthOf i) (length buf) h), e ∙ sym (placed-room at (instructionBytes i) buf (rw (length-instruction i) h)))
+-- the two ways in which it ends: its answer, and what the buffer then holds
+module _ (i : Instruction) (at : ℕ) (buf : List ℕ) where
+  pub encode-no-room : length buf < at + lengthOf i →
+      (refused 13 ≡ mapped length (encodeOf i at (length buf))) × (buf ≡ layAt at (laid (λ bytes. bytes) (encodeOf i at (length buf))) buf)
+  unfolding encodeOf
+  encode-no-room h = rw (lt-ltb (length buf) (at + lengthOf i) h) (refl, layAt-nothing at buf)
+
+  pub encode-room : (long : ℕ) (now : List ℕ) → long ≡ lengthOf i → at + lengthOf i ≤ length buf → now ≡ layAt at (instructionBytes i) buf →
+      (gives long ≡ mapped length (encodeOf i at (length buf))) × (now ≡ layAt at (laid (λ bytes. bytes) (encodeOf i at (length buf))) buf)
+  encode-room long now q h e = rw (encode-gives i at (length buf) h) (ap gives (q ∙ sym (length-instruction i)), e)
 
 -- ---- a header
 pub numbers-are : (file : List ℕ) (r i o lo hi : ℕ) → r ≡ fieldOf file 4 → i ≡ fieldOf file 6 → o ≡ fieldOf file 8 → lo ≡ fieldOf file 10 →
@@ -122,20 +127,19 @@ module _ (file : List ℕ) (h : header-length ≤ length file) (kind : ℕ) (is-
           eq-eqb (fieldOf file 0) header-length (sym e ∙ n),
         )
 
-module _ (p : Program) (buf : List ℕ) where
-  pub header-not : within p ≡ false → (false ≡ (within p && leb header-length (length buf))) × (buf ≡ headerPlaced p buf)
-  unfolding headerPlaced
-  header-not w = (rw w, rw w)
+-- ---- writing a header
+module _ (p : Program) (room : ℕ) where
+  pub write-header-outside : within p ≡ false → writeHeaderOf p room ≡ refused 3
+  unfolding writeHeaderOf
+  write-header-outside w = rw w
 
-  pub header-no-room : within p ≡ true → length buf < header-length →
-      (false ≡ (within p && leb header-length (length buf))) × (buf ≡ headerPlaced p buf)
-  unfolding headerPlaced
-  header-no-room w h = (rw (w, lt-leb header-length (length buf) h), rw (w, lt-leb header-length (length buf) h))
+  pub write-header-short : within p ≡ true → room < header-length → writeHeaderOf p room ≡ refused 13
+  unfolding writeHeaderOf
+  write-header-short w h = rw (w, lt-ltb room header-length h)
 
-  pub header-room : (now : List ℕ) → within p ≡ true → header-length ≤ length buf → now ≡ layAt 0 (headerBytes p) buf →
-      (true ≡ (within p && leb header-length (length buf))) × (now ≡ headerPlaced p buf)
-  unfolding headerPlaced
-  header-room now w h e = (rw (w, le-leb header-length (length buf) h), rw (w, le-leb header-length (length buf) h) e)
+  pub write-header-gives : within p ≡ true → header-length ≤ room → writeHeaderOf p room ≡ gives (headerBytes p)
+  unfolding writeHeaderOf
+  write-header-gives w h = rw (w, le-ltb room header-length h)
 
 -- what the limits say
 in-limits : (most x : ℕ) → among most x ≡ true → (1 ≤ x) × (x ≤ most)

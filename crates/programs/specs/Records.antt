@@ -1,11 +1,8 @@
 -- 01, "Files": a record is a row of 16-bit fields. Assumes nothing.
 use Prim.Native.Nat.{ℕ, _+_, _-_, _*_, _/_, _%_, _≤_, _<_}
 use mathlib.Core.Path.{_≡_, refl, ap, _∙_}
-use mathlib.Core.Bool.{cond}
 use mathlib.Core.List.{List, [], _∷_, _++_}
 use native.Mathlib.Omega.{arith}
-use borrow.Author.Tests.{le-leb, lt-leb}
-use lib.Dec.{leb}
 use lib.ListN.{length}
 use Rattle.laws.specs.Lay.{layAt, length-layAt, Laid, laid-none, laid-after}
 use Rattle.files.specs.Fields.{fieldBytes}
@@ -14,10 +11,6 @@ use Rattle.files.specs.Fields.{fieldBytes}
 unfoldable pub recordBytes : List ℕ → List ℕ
 recordBytes [] = []
 recordBytes (x ∷ xs) = fieldBytes x ++ recordBytes xs
-
--- bytes in place of what stands from place k on, where they have room there; nothing where not
-unfoldable pub placed : ℕ → List ℕ → List ℕ → List ℕ
-placed k xs buf = cond (leb (k + length xs) (length buf)) (layAt k xs buf) buf
 
 -- ---- writing
 pub length-record : (xs : List ℕ) → length (recordBytes xs) ≡ 2 * length xs
@@ -53,11 +46,3 @@ module _ (at : ℕ) (buf : List ℕ) where
   field-after xs k x now now′ e h q r =
       let long : length now ≡ length buf = ap length q ∙ length-layAt at (recordBytes xs) buf (omega (arith, length-record xs)) in
       (one-more xs k x now now′ e h r (record { long = long; is = q })) .is
-
-pub placed-room : (k : ℕ) (xs buf : List ℕ) → k + length xs ≤ length buf → placed k xs buf ≡ layAt k xs buf
-unfolding placed
-placed-room k xs buf h = rw (le-leb (k + length xs) (length buf) h)
-
-pub placed-not : (k : ℕ) (xs buf : List ℕ) → length buf < k + length xs → placed k xs buf ≡ buf
-unfolding placed
-placed-not k xs buf h = rw (lt-leb (k + length xs) (length buf) h)

@@ -1,16 +1,18 @@
 // The header of a program: reading one and writing one (01, "Files").
 ghost use mathlib.Core.Path.{_≡_};
-ghost use mathlib.Core.Bool.{true, _&&_};
+ghost use mathlib.Core.Bool.{true};
 ghost use Prim.Native.Nat.{_≤_};
-ghost use lib.Dec.{leb};
 ghost use lib.ListN.{length};
-ghost use Rattle.laws.specs.Lay.{layAt};
+ghost use Rattle.laws.specs.Lay.{lay, layAt};
+ghost use Rattle.laws.specs.Outcome.{laid, mapped};
+ghost use Rattle.files.specs.Files.{written};
 ghost use Rattle.programs.specs.Limits.{within};
-ghost use Rattle.programs.specs.Header.{checked, header-length, headerBytes, headerOf, headerPlaced};
+ghost use Rattle.programs.specs.Header.{checked, header-length, headerBytes, headerOf, writeHeaderOf};
 use crate::description::Program;
 use crate::fields::put;
 use crate::fields::put_five;
 use files::Refusal;
+use files::Written;
 use files::field;
 
 // A refusal, or a program's header.
@@ -65,17 +67,17 @@ fn store_header(p: Program, out: &mut [u8])
     put(out, 12, (p.count / 65536) as u16);
 }
 
-// Writes a header at the front of `out`, or nothing where it is outside the limits or has no room. Answers whether it is written.
-pub fn write_header(p: Program, out: &mut [u8]) -> bool
-    ensures { λ r. ⌜ r ≡ (within p && leb header-length (length (now (out .entry)))) ⌝ }
-    ensures { λ r. ⌜ now (out .exit) ≡ headerPlaced p (now (out .entry)) ⌝ }
+// Writes a header at the front of `out`, and answers its length; or refusal 3 where it is outside the limits, then 13.
+pub fn write_header(p: Program, out: &mut [u8]) -> Written
+    ensures { λ r. ⌜ written r ≡ mapped length (writeHeaderOf p (length (now (out .entry)))) ⌝ }
+    ensures { λ r. ⌜ now (out .exit) ≡ lay (laid (λ bytes. bytes) (writeHeaderOf p (length (now (out .entry))))) (now (out .entry)) ⌝ }
 {
     if !p.within() {
-        return false;
+        return Written::Refused(Refusal::Size);
     }
     if out.len() < Program::HEADER {
-        return false;
+        return Written::Refused(Refusal::Buffer);
     }
     store_header(p, out);
-    true
+    Written::Length(Program::HEADER)
 }

@@ -1,16 +1,17 @@
 // The bytes of an instruction: writing one and reading one (01, "Files").
 ghost use mathlib.Core.Path.{_≡_};
 ghost use Prim.Native.Nat.{_+_, _≤_};
-ghost use lib.Dec.{leb};
 ghost use lib.ListN.{length};
 ghost use Rattle.laws.specs.Lay.{layAt};
-ghost use Rattle.programs.specs.Records.{placed};
-ghost use Rattle.programs.specs.Instructions.{decodeAt, decoded, decodeOf, instructionBytes, lengthOf, sizedOf};
+ghost use Rattle.laws.specs.Outcome.{laid, mapped};
+ghost use Rattle.files.specs.Files.{written};
+ghost use Rattle.programs.specs.Instructions.{decodeAt, decoded, decodeOf, encodeOf, instructionBytes, lengthOf, sizedOf};
 use crate::description::Instruction;
 use crate::fields::put_five;
 use crate::fields::put_four;
 use crate::fields::put_three;
 use files::Refusal;
+use files::Written;
 use files::field;
 
 // A refusal, or an instruction.
@@ -82,17 +83,18 @@ fn store(i: Instruction, out: &mut [u8], at: usize)
     }
 }
 
-// Writes an instruction at byte `at` of `out`, or nothing where it has no room there. Answers whether it had.
-pub fn encode(i: Instruction, out: &mut [u8], at: usize) -> bool
-    ensures { λ r. ⌜ r ≡ leb (at + lengthOf i) (length (now (out .entry))) ⌝ }
-    ensures { λ r. ⌜ now (out .exit) ≡ placed at (instructionBytes i) (now (out .entry)) ⌝ }
+// Writes an instruction at byte `at` of `out`, and answers its length; or refusal 13 where it has no room there.
+pub fn encode(i: Instruction, out: &mut [u8], at: usize) -> Written
+    ensures { λ r. ⌜ written r ≡ mapped length (encodeOf i at (length (now (out .entry)))) ⌝ }
+    ensures { λ r. ⌜ now (out .exit) ≡ layAt at (laid (λ bytes. bytes) (encodeOf i at (length (now (out .entry))))) (now (out .entry)) ⌝ }
 {
+    let length = i.length();
     if out.len() < at {
-        return false;
+        return Written::Refused(Refusal::Buffer);
     }
-    if out.len() - at < i.length() {
-        return false;
+    if out.len() - at < length {
+        return Written::Refused(Refusal::Buffer);
     }
     store(i, out, at);
-    true
+    Written::Length(length)
 }
