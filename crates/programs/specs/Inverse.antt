@@ -8,15 +8,16 @@ use native.Mathlib.Numerals.{add-one}
 use native.Mathlib.Omega.{arith}
 use borrow.Author.Tests.{le-ltb, eq-eqb, ltb-false, eqb-true, not-false}
 use lib.Dec.{eqb, ltb}
-use lib.ListN.{length, getD, take, drop, length-append}
-use lib.Seq.{getD-drop, drop-cons}
-use Rattle.laws.specs.Outcome.{Outcome, gives, passed, bound, gives-inj, no-result}
+use lib.ListN.{length, getD, take, drop, length-append, length-drop, take-append-drop}
+use lib.Seq.{getD-drop, drop-cons, drop-drop, drop-append-seam, length-take-le, take-at, drop-at}
+use Rattle.laws.specs.Lay.{lay, layAt}
+use Rattle.laws.specs.Outcome.{Outcome, gives, laid, passed, bound, gives-inj, no-result}
 use Rattle.files.specs.Fields.{fieldOf, field-small}
 use Rattle.programs.specs.Limits.{within}
 use Rattle.programs.specs.Records.{recordBytes}
-use Rattle.programs.specs.Reading.{length-instruction, header-read}
-use Rattle.programs.specs.Instructions.{ofKind, sizedOf, kindOf, lengthOf, operandsOf, instructionBytes, decodeOf}
-use Rattle.programs.specs.Header.{header-length, header-kind, headerBytes, headerOf, numbersOf}
+use Rattle.programs.specs.Reading.{length-instruction, encode-gives, header-long, header-read, write-header-gives}
+use Rattle.programs.specs.Instructions.{ofKind, sizedOf, kindOf, lengthOf, operandsOf, instructionBytes, encodeOf, decodeOf, decodeAt}
+use Rattle.programs.specs.Header.{header-length, header-kind, headerBytes, headerOf, writeHeaderOf, numbersOf}
 use Rattle.programs.specs.declared.description.Program.{Program}
 use Rattle.programs.specs.declared.description.Instruction.{Instruction}
 use Rattle.programs.specs.declared.description.Instruction.the-variants.{Ones, Zero, Input, Not, And, Or, Output}
@@ -231,3 +232,87 @@ header-back file p byte e =
 
     count-high : (fieldOf file 10 + 65536 * fieldOf file 12) / 65536 ≡ fieldOf file 12
     count-high = omega (arith, small)
+
+-- ---- what the contracts of encode, decode, write_header and read_header cite
+-- what is laid at a place stands there
+drop-laid : (k : ℕ) (xs buf : List ℕ) → k ≤ length buf → drop k (layAt k xs buf) ≡ xs ++ drop (k + length xs) buf
+unfolding layAt
+drop-laid k xs buf h = drop-at (take k buf) (xs ++ drop (k + length xs) buf) k (length-take-le k buf h)
+
+-- what already stands at a place, laid there, changes nothing
+laid-back : (k : ℕ) (xs rest buf : List ℕ) → drop k buf ≡ xs ++ rest → layAt k xs buf ≡ buf
+unfolding layAt
+laid-back k xs rest buf e =
+    let behind : drop (k + length xs) buf ≡ rest =
+    sym (drop-drop (length xs) k buf) ∙ (ap (drop (length xs)) e ∙ drop-append-seam xs rest) in
+    rw (behind, ← e) (take-append-drop k buf)
+
+-- the front of a file
+front-is : (n : ℕ) (xs rest file : List ℕ) → length xs ≡ n → file ≡ xs ++ rest → xs ≡ take n file
+front-is n xs rest file l e = sym (ap (take n) e ∙ take-at xs rest n l)
+
+encode-means : (i : Instruction) (at room : ℕ) (bytes : List ℕ) → encodeOf i at room ≡ gives bytes →
+    (at + lengthOf i ≤ room) × (instructionBytes i ≡ bytes)
+unfolding encodeOf
+encode-means i at room bytes e =
+    let c = passed 13 (ltb room (at + lengthOf i)) (gives (instructionBytes i)) bytes e in
+    (ltb-false room (at + lengthOf i) (c .0), gives-inj (c .1))
+
+-- an instruction that is written is read back
+pub encode-then-decode : (i : Instruction) (at : ℕ) (buf bytes : List ℕ) → encodeOf i at (length buf) ≡ gives bytes →
+    decodeAt (layAt at bytes buf) at ≡ gives i
+unfolding decodeAt
+encode-then-decode i at buf bytes e =
+    let m = encode-means i at (length buf) bytes e in
+    rw (← m .1, drop-laid at (instructionBytes i) buf (omega arith)) (decode-written i (drop (at + length (instructionBytes i)) buf))
+
+-- an instruction that is read is written back as it stands, which changes nothing
+module _ (file : List ℕ) (at : ℕ) (i : Instruction) (byte : (k : ℕ) → getD file k 0 < 256) (e : decodeAt file at ≡ gives i) where
+  stands : drop at file ≡ instructionBytes i ++ drop (lengthOf i) (drop at file)
+  unfolding decodeAt
+  stands = instruction-back (drop at file) i (λ k. rw (getD-drop at file k 0) (byte (at + k))) e
+
+  fits : at + lengthOf i ≤ length file
+  unfolding decodeAt
+  fits = omega (arith, decode-reads (drop at file) i e .room, length-drop at file, length-some i)
+
+  pub decode-then-encode : encodeOf i at (length file) ≡ gives (take (lengthOf i) (drop at file))
+  decode-then-encode =
+      encode-gives i at (length file) fits ∙
+      ap gives (front-is (lengthOf i) (instructionBytes i) (drop (lengthOf i) (drop at file)) (drop at file) (length-instruction i) stands)
+
+  pub decode-then-encode-same : layAt at (laid (λ bytes. bytes) (encodeOf i at (length file))) file ≡ file
+  decode-then-encode-same =
+      rw (encode-gives i at (length file) fits) (laid-back at (instructionBytes i) (drop (lengthOf i) (drop at file)) file stands)
+
+write-header-means : (p : Program) (room : ℕ) (bytes : List ℕ) → writeHeaderOf p room ≡ gives bytes →
+    (within p ≡ true) × (headerBytes p ≡ bytes)
+unfolding writeHeaderOf
+write-header-means p room bytes e =
+    let c1 = passed 3 (not (within p)) _ bytes e in
+    let c2 = passed 13 (ltb room header-length) (gives (headerBytes p)) bytes (c1 .1) in
+    (not-false _ (c1 .0), gives-inj (c2 .1))
+
+-- a header that is written is read back
+pub write-header-then-read : (p : Program) (buf bytes : List ℕ) → writeHeaderOf p (length buf) ≡ gives bytes →
+    headerOf (lay bytes buf) ≡ gives p
+unfolding lay
+write-header-then-read p buf bytes e =
+    let m = write-header-means p (length buf) bytes e in
+    rw (← m .1) (header-written p (drop (length (headerBytes p)) buf) (m .0))
+
+-- a header that is read is written back as it stands, which changes nothing
+module _ (file : List ℕ) (p : Program) (byte : (k : ℕ) → getD file k 0 < 256) (e : headerOf file ≡ gives p) where
+  given : writeHeaderOf p (length file) ≡ gives (headerBytes p)
+  given =
+      let h = header-reads file p e in
+      write-header-gives p (length file) (h .inside) (h .room)
+
+  pub read-header-then-write : writeHeaderOf p (length file) ≡ gives (take header-length file)
+  read-header-then-write =
+      given ∙
+      ap gives (front-is header-length (headerBytes p) (drop header-length file) file (header-long p) (header-back file p byte e))
+
+  pub read-header-then-write-same : lay (laid (λ bytes. bytes) (writeHeaderOf p (length file))) file ≡ file
+  unfolding lay
+  read-header-then-write-same = rw (given, header-long p) (sym (header-back file p byte e))
