@@ -11,6 +11,7 @@ ghost use Rattle.compiler.specs.Room.{Roomy};
 ghost use Rattle.compiler.specs.EmittingColumns.{Counted, packedRows};
 ghost use Rattle.compiler.specs.EmittingProgram.{Measured, Packed};
 use files::bit;
+use programs::Instruction;
 use programs::Program;
 
 // k, the bits needed to write m - 1, by counted leading zeros.
@@ -72,7 +73,8 @@ fn program_length(k: usize, n: usize, count: usize) -> usize
     requires { ⌜ (3 + 2 * k + count ≤ most-instructions) × (4 * n ≤ 10 * count) ⌝ }
     ensures { λ r. ⌜ r ≡ header-length + 6 * (2 + k) + 10 * count - 4 * n + 8 * (1 + k) ⌝ }
 {
-    Program::HEADER + 6 * (2 + k) + 10 * count - 4 * n + 8 * (1 + k)
+    Program::HEADER + Instruction::LENGTH_ONE * (2 + k) + Instruction::LENGTH_THREE * count - 4 * n
+        + Instruction::LENGTH_TWO * (1 + k)
 }
 
 // What is measured of a program: k, the instructions of its columns, and its bytes.

@@ -132,6 +132,11 @@ fn sound_gate(
     written[a] & written[b]
 }
 
+// The kinds that `gates` passes.
+const AND: usize = Instruction::KIND_AND;
+
+const OR: usize = Instruction::KIND_OR;
+
 // Passes ANDs, or ORs, that no refusal is due for, as long as one follows another. The first that is none is left to `admit`. Most of a
 // program is such runs: length and kind are tried as one number, and the room for all of them once.
 fn gates(
@@ -145,14 +150,14 @@ fn gates(
     requires { ⌜ (registers ≤ most-registers) × (length (now written) ≡ most-registers) × (from ≤ length (now file)) × (5 ≤ kind) × (kind ≤ 6) ⌝ }
     ensures { λ r. ⌜ Passes (now (file .entry)) registers count from (now (written .entry)) (r .more) (r .at) (now (written .exit)) ⌝ }
 {
-    let head = 10 + 65536 * kind;
-    let most = lesser(count, (file.len() - from) / 10);
+    let head = Instruction::LENGTH_THREE + 65536 * kind;
+    let most = lesser(count, (file.len() - from) / Instruction::LENGTH_THREE);
     let mut at = from;
     let mut done: usize = 0;
     while done < most && wide_at(file, at) == head && sound_gate(file, at, registers, written) {
         let to = field_at(file, at + 4);
         written[to] = true;
-        at += 10;
+        at += Instruction::LENGTH_THREE;
         done += 1;
     }
     Left {
@@ -190,8 +195,8 @@ fn body(file: &[u8], p: Program) -> Checked
         mark_register(i, &mut seen.written);
         mark_output(i, &mut seen.set);
         at += i.length();
-        let a = gates(file, at, more - 1, 5, p.registers, &mut seen.written);
-        let o = gates(file, a.at, a.more, 6, p.registers, &mut seen.written);
+        let a = gates(file, at, more - 1, AND, p.registers, &mut seen.written);
+        let o = gates(file, a.at, a.more, OR, p.registers, &mut seen.written);
         at = o.at;
         more = o.more;
     }

@@ -6,6 +6,7 @@ ghost use lib.ListN.{drop, length};
 ghost use Rattle.files.specs.Fields.{fieldOf};
 ghost use Rattle.machine.specs.Standing.{Formed, Four, Gate, Known, Ready, Standing};
 ghost use Rattle.machine.specs.Turns.{Along, andWords, Carried, Does, orWords};
+use programs::Instruction;
 
 // The 16-bit field at `at`, in bytes that hold it.
 pub(crate) fn field_at(file: &[u8], at: usize) -> usize
@@ -63,34 +64,34 @@ fn step_at(
     ensures { λ r. ⌜ Does (now (file .entry)) at (now (inputs .entry)) (now (registers .entry)) (now (outputs .entry)) r (now (registers .exit)) (now (outputs .exit)) ⌝ }
 {
     let kind = field_at(file, at + 2);
-    if kind == 5 {
+    if kind == Instruction::KIND_AND {
         and_at(file, at, registers);
-        return at + 10;
+        return at + Instruction::LENGTH_THREE;
     }
-    if kind == 6 {
+    if kind == Instruction::KIND_OR {
         or_at(file, at, registers);
-        return at + 10;
+        return at + Instruction::LENGTH_THREE;
     }
     let to = field_at(file, at + 4);
-    if kind == 1 {
+    if kind == Instruction::KIND_ONES {
         registers[to] = 0xffff_ffff_ffff_ffff;
-        return at + 6;
+        return at + Instruction::LENGTH_ONE;
     }
-    if kind == 2 {
+    if kind == Instruction::KIND_ZERO {
         registers[to] = 0;
-        return at + 6;
+        return at + Instruction::LENGTH_ONE;
     }
     let from = field_at(file, at + 6);
-    if kind == 3 {
+    if kind == Instruction::KIND_INPUT {
         registers[to] = inputs[from];
-        return at + 8;
+        return at + Instruction::LENGTH_TWO;
     }
-    if kind == 4 {
+    if kind == Instruction::KIND_NOT {
         registers[to] = !registers[from];
-        return at + 8;
+        return at + Instruction::LENGTH_TWO;
     }
     outputs[to] = registers[from];
-    at + 8
+    at + Instruction::LENGTH_TWO
 }
 
 // Where a run is: the byte of its next instruction, and how many are still to be carried out.
@@ -98,6 +99,21 @@ pub(crate) struct Left {
     pub(crate) at: usize,
     pub(crate) more: usize,
 }
+
+// Four ANDs or ORs that follow each other: where the second, third and fourth begin and where their kinds stand, and where they end.
+const SECOND: usize = Instruction::LENGTH_THREE;
+
+const SECOND_KIND: usize = SECOND + 2;
+
+const THIRD: usize = 2 * Instruction::LENGTH_THREE;
+
+const THIRD_KIND: usize = THIRD + 2;
+
+const FOURTH: usize = 3 * Instruction::LENGTH_THREE;
+
+const FOURTH_KIND: usize = FOURTH + 2;
+
+const FOUR: usize = 4 * Instruction::LENGTH_THREE;
 
 // Whether four instructions of one kind, AND or OR, follow each other from byte `at` on, where four instructions stand.
 fn four(file: &[u8], at: usize, kind: usize) -> bool
@@ -107,13 +123,13 @@ fn four(file: &[u8], at: usize, kind: usize) -> bool
     if field_at(file, at + 2) != kind {
         return false;
     }
-    if field_at(file, at + 12) != kind {
+    if field_at(file, at + SECOND_KIND) != kind {
         return false;
     }
-    if field_at(file, at + 22) != kind {
+    if field_at(file, at + THIRD_KIND) != kind {
         return false;
     }
-    field_at(file, at + 32) == kind
+    field_at(file, at + FOURTH_KIND) == kind
 }
 
 // ANDs, as long as four follow each other.
@@ -123,12 +139,12 @@ fn and_fours(file: &[u8], from: usize, steps: usize, registers: &mut [u64]) -> L
 {
     let mut more = steps;
     let mut at = from;
-    while 3 < more && four(file, at, 5) {
+    while 3 < more && four(file, at, Instruction::KIND_AND) {
         and_at(file, at, registers);
-        and_at(file, at + 10, registers);
-        and_at(file, at + 20, registers);
-        and_at(file, at + 30, registers);
-        at += 40;
+        and_at(file, at + SECOND, registers);
+        and_at(file, at + THIRD, registers);
+        and_at(file, at + FOURTH, registers);
+        at += FOUR;
         more -= 4;
     }
     Left { at, more }
@@ -142,9 +158,9 @@ fn and_run(file: &[u8], from: usize, steps: usize, registers: &mut [u64]) -> Lef
     let most = and_fours(file, from, steps, registers);
     let mut more = most.more;
     let mut at = most.at;
-    while 0 < more && field_at(file, at + 2) == 5 {
+    while 0 < more && field_at(file, at + 2) == Instruction::KIND_AND {
         and_at(file, at, registers);
-        at += 10;
+        at += Instruction::LENGTH_THREE;
         more -= 1;
     }
     Left { at, more }
@@ -157,12 +173,12 @@ fn or_fours(file: &[u8], from: usize, steps: usize, registers: &mut [u64]) -> Le
 {
     let mut more = steps;
     let mut at = from;
-    while 3 < more && four(file, at, 6) {
+    while 3 < more && four(file, at, Instruction::KIND_OR) {
         or_at(file, at, registers);
-        or_at(file, at + 10, registers);
-        or_at(file, at + 20, registers);
-        or_at(file, at + 30, registers);
-        at += 40;
+        or_at(file, at + SECOND, registers);
+        or_at(file, at + THIRD, registers);
+        or_at(file, at + FOURTH, registers);
+        at += FOUR;
         more -= 4;
     }
     Left { at, more }
@@ -176,9 +192,9 @@ fn or_run(file: &[u8], from: usize, steps: usize, registers: &mut [u64]) -> Left
     let most = or_fours(file, from, steps, registers);
     let mut more = most.more;
     let mut at = most.at;
-    while 0 < more && field_at(file, at + 2) == 6 {
+    while 0 < more && field_at(file, at + 2) == Instruction::KIND_OR {
         or_at(file, at, registers);
-        at += 10;
+        at += Instruction::LENGTH_THREE;
         more -= 1;
     }
     Left { at, more }

@@ -56,18 +56,40 @@ impl Program {
 }
 
 impl Instruction {
+    // The kinds.
+    pub const KIND_ONES: usize = 1;
+
+    pub const KIND_ZERO: usize = 2;
+
+    pub const KIND_INPUT: usize = 3;
+
+    pub const KIND_NOT: usize = 4;
+
+    pub const KIND_AND: usize = 5;
+
+    pub const KIND_OR: usize = 6;
+
+    pub const KIND_OUTPUT: usize = 7;
+
+    // The bytes of an instruction of one operand, of two and of three.
+    pub const LENGTH_ONE: usize = 6;
+
+    pub const LENGTH_TWO: usize = 8;
+
+    pub const LENGTH_THREE: usize = 10;
+
     // The bytes that the instruction takes.
     pub fn length(self) -> usize
         ensures { λ r. ⌜ r ≡ lengthOf self ⌝ }
     {
         match self {
-            Instruction::Ones(_) => 6,
-            Instruction::Zero(_) => 6,
-            Instruction::Input(_, _) => 8,
-            Instruction::Not(_, _) => 8,
-            Instruction::And(_, _, _) => 10,
-            Instruction::Or(_, _, _) => 10,
-            Instruction::Output(_, _) => 8,
+            Instruction::Ones(_) => Instruction::LENGTH_ONE,
+            Instruction::Zero(_) => Instruction::LENGTH_ONE,
+            Instruction::Input(_, _) => Instruction::LENGTH_TWO,
+            Instruction::Not(_, _) => Instruction::LENGTH_TWO,
+            Instruction::And(_, _, _) => Instruction::LENGTH_THREE,
+            Instruction::Or(_, _, _) => Instruction::LENGTH_THREE,
+            Instruction::Output(_, _) => Instruction::LENGTH_TWO,
         }
     }
 }

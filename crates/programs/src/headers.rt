@@ -54,15 +54,7 @@ fn store_header(p: Program, out: &mut [u8])
     let r = p.registers as u16;
     let i = p.inputs as u16;
     let o = p.outputs as u16;
-    put_five(
-        out,
-        0,
-        Program::HEADER as u16,
-        Program::KIND as u16,
-        r,
-        i,
-        o,
-    );
+    put_five(out, 0, Program::HEADER, Program::KIND, r, i, o);
     put(out, 10, (p.count % 65536) as u16);
     put(out, 12, (p.count / 65536) as u16);
 }

@@ -46,13 +46,13 @@ fn front(bytes: &[u8]) -> Decoded
     let a = field(bytes, 6) as u16;
     let b = field(bytes, 8) as u16;
     match field(bytes, 2) {
-        1 => sized(length, Instruction::Ones(to)),
-        2 => sized(length, Instruction::Zero(to)),
-        3 => sized(length, Instruction::Input(to, a)),
-        4 => sized(length, Instruction::Not(to, a)),
-        5 => sized(length, Instruction::And(to, a, b)),
-        6 => sized(length, Instruction::Or(to, a, b)),
-        7 => sized(length, Instruction::Output(to, a)),
+        Instruction::KIND_ONES => sized(length, Instruction::Ones(to)),
+        Instruction::KIND_ZERO => sized(length, Instruction::Zero(to)),
+        Instruction::KIND_INPUT => sized(length, Instruction::Input(to, a)),
+        Instruction::KIND_NOT => sized(length, Instruction::Not(to, a)),
+        Instruction::KIND_AND => sized(length, Instruction::And(to, a, b)),
+        Instruction::KIND_OR => sized(length, Instruction::Or(to, a, b)),
+        Instruction::KIND_OUTPUT => sized(length, Instruction::Output(to, a)),
         _ => Decoded::Refused(Refusal::Instruction),
     }
 }
@@ -67,19 +67,21 @@ pub fn decode(file: &[u8], at: usize) -> Decoded
     front(&file[at..])
 }
 
-// Stores an instruction at byte `at`, where it has room.
-fn store(i: Instruction, out: &mut [u8], at: usize)
-    requires { ⌜ at + lengthOf i ≤ length (now out) ⌝ }
-    ensures { λ _. ⌜ now (out .exit) ≡ layAt at (instructionBytes i) (now (out .entry)) ⌝ }
-{
-    match i {
-        Instruction::Ones(to) => put_three(out, at, 6, 1, to),
-        Instruction::Zero(to) => put_three(out, at, 6, 2, to),
-        Instruction::Input(to, n) => put_four(out, at, 8, 3, to, n),
-        Instruction::Not(to, a) => put_four(out, at, 8, 4, to, a),
-        Instruction::And(to, a, b) => put_five(out, at, 10, 5, to, a, b),
-        Instruction::Or(to, a, b) => put_five(out, at, 10, 6, to, a, b),
-        Instruction::Output(o, a) => put_four(out, at, 8, 7, o, a),
+impl Instruction {
+    // Stores the instruction at byte `at`, where it has room.
+    fn store(self, out: &mut [u8], at: usize)
+        requires { ⌜ at + lengthOf self ≤ length (now out) ⌝ }
+        ensures { λ _. ⌜ now (out .exit) ≡ layAt at (instructionBytes self) (now (out .entry)) ⌝ }
+    {
+        match self {
+            Self::Ones(to) => put_three(out, at, Self::LENGTH_ONE, Self::KIND_ONES, to),
+            Self::Zero(to) => put_three(out, at, Self::LENGTH_ONE, Self::KIND_ZERO, to),
+            Self::Input(to, n) => put_four(out, at, Self::LENGTH_TWO, Self::KIND_INPUT, to, n),
+            Self::Not(to, a) => put_four(out, at, Self::LENGTH_TWO, Self::KIND_NOT, to, a),
+            Self::And(to, a, b) => put_five(out, at, Self::LENGTH_THREE, Self::KIND_AND, to, a, b),
+            Self::Or(to, a, b) => put_five(out, at, Self::LENGTH_THREE, Self::KIND_OR, to, a, b),
+            Self::Output(o, a) => put_four(out, at, Self::LENGTH_TWO, Self::KIND_OUTPUT, o, a),
+        }
     }
 }
 
@@ -95,6 +97,6 @@ pub fn encode(i: Instruction, out: &mut [u8], at: usize) -> Written
     if out.len() - at < length {
         return Written::Refused(Refusal::Buffer);
     }
-    store(i, out, at);
+    i.store(out, at);
     Written::Length(length)
 }

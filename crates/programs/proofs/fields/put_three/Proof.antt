@@ -4,11 +4,17 @@ use Rattle.programs.specs.Records.{three-fields}
 use Rattle.programs.proofs.fields.put_three.Statement.{statement}
 use Rattle.programs.proofs.fields.put_three.Tie as tie
 
+cast-put : tie.Need-cast-put
+cast-put c = search needs
+
 put-requires : tie.Need-put-requires
 put-requires c κs = search needs
 
 add-put : tie.Need-add-put
 add-put c = search needs
+
+cast-put-2 : tie.Need-cast-put-2
+cast-put-2 c = search needs
 
 put-requires-2 : tie.Need-put-requires-2
 put-requires-2 c κs = search needs
@@ -23,9 +29,12 @@ same-length : tie.Need-same-length
 same-length c = search needs
 
 returns : tie.Need-returns
-returns c = three-fields _ _ _ _ _ _ _ _ (c .before .before .before .before .before .before .before .before .before .before .put .ensures) (c .before .before .before .before .before .before .put2 .ensures) (c .before .before .put3 .ensures) (c .before .before .before .before .before .before .before .before .before .before .before .before .before .pre)
+returns c =
+    three-fields _ _ _ _ _ _ _ _ (c .before .before .before .before .before .before .before .before .before .before .put .ensures)
+    (c .before .before .before .before .before .before .put2 .ensures) (c .before .before .put3 .ensures)
+    (c .before .before .before .before .before .before .before .before .before .before .before .before .before .pre .0)
 
 pub put-three-spec : {M : Type 1} → statement M
 put-three-spec =
     tie.close
-    (tie.spec put-requires add-put put-requires-2 add-put-2 put-requires-3 same-length returns)
+    (tie.spec cast-put put-requires add-put cast-put-2 put-requires-2 add-put-2 put-requires-3 same-length returns)

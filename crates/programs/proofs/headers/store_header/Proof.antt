@@ -19,12 +19,6 @@ cast-i c = let w = within-means (c .before .before .before .args .p) (c .before 
 cast-o : tie.Need-cast-o
 cast-o c = let w = within-means (c .before .before .before .before .args .p) (c .before .before .before .before .pre .0) in omega arith
 
-cast-put-five : tie.Need-cast-put-five
-cast-put-five c = search needs
-
-cast-put-five-2 : tie.Need-cast-put-five-2
-cast-put-five-2 c = search needs
-
 put-five-requires : tie.Need-put-five-requires
 put-five-requires c κs = search needs
 
@@ -54,8 +48,6 @@ store-header-spec =
     cast-r
     cast-i
     cast-o
-    cast-put-five
-    cast-put-five-2
     put-five-requires
     cast-put
     put-requires
