@@ -200,12 +200,16 @@ module _ (file : List ℕ) (room : ℕ) where
       let l : ltb room (g .0 .rows * g .0 .columns) ≡ true = rw (← g .2) at (lt-ltb room (s .rows * s .columns) h) in
       rw (g .1, l)
 
-  pub read-gives : (s : Sizes) → gives s ≡ mapped sizes (matrixOf file) → s .rows * s .columns ≤ room → readOf file room ≡ gives (unpacked (drop 8 file) s)
+  -- a file with a matrix, read into a buffer with room for its entries, gives it
+  pub read-room : (M : Matrix) → matrixOf file ≡ gives M → M .rows * M .columns ≤ room → readOf file room ≡ gives M
   unfolding readOf
+  read-room M e h = rw (e, le-ltb room (M .rows * M .columns) h)
+
+  pub read-gives : (s : Sizes) → gives s ≡ mapped sizes (matrixOf file) → s .rows * s .columns ≤ room →
+      readOf file room ≡ gives (unpacked (drop 8 file) s)
   read-gives s e h =
       let g = mapped-gives sizes (matrixOf file) s e in
-      let l : ltb room (g .0 .rows * g .0 .columns) ≡ false = rw (← g .2) at (le-ltb room (s .rows * s .columns) h) in
-      rw (g .1, l) (ap gives (matrix-read file (g .0) (g .1) .is ∙ ap (unpacked (drop 8 file)) (g .2)))
+      read-room (g .0) (g .1) (rw (← g .2) at h) ∙ ap gives (matrix-read file (g .0) (g .1) .is ∙ ap (unpacked (drop 8 file)) (g .2))
 
 -- what a caller of `check` knows of the file
 pub checked-whole : (file : List ℕ) (s : Sizes) → gives s ≡ mapped sizes (matrixOf file) → Whole file s

@@ -15,7 +15,7 @@ use Rattle.laws.specs.Outcome.{gives, refuse, _>>_, _>>=_, passed, bound, gives
 use Rattle.files.specs.Fields.{fieldOf, fieldBytes, width, bitOf, packedBit, bit-le, padded, padded-le, padded-below, padded-above, padded-both, packed, length-packed, spare, spare-none, spare-zero}
 use Rattle.files.specs.Matrix.{Matrix, sizes, Accepted, bit, total, outside, most-rows, most-columns}
 use Rattle.files.specs.Files.{fileLength, headerBytes, matrixFile, headerOf, bodyOf, matrixOf, readOf, writeOf, unpacked}
-use Rattle.files.specs.Checks.{inside, within, header-gives, header-fields, Read, matrix-read, unpacked-bit}
+use Rattle.files.specs.Checks.{inside, within, header-gives, header-fields, Read, matrix-read, unpacked-bit, read-room}
 use Rattle.files.specs.Weights.{sum, built, buildOf}
 use Rattle.files.specs.Building.{built-accepted}
 use Rattle.files.specs.declared.weights.Usage.{Usage}
@@ -205,10 +205,10 @@ read-then-write file entries room M bytes e h =
         (inside most-columns (M .columns) (ok .some-columns) (ok .few-columns)) long small sum (omega (arith, matrix-read file M g .whole .long)) ∙
         ap gives (ap matrixFile back ∙ read-write file bytes M g)
 
--- A written matrix reads as itself, with the same rows, columns and entries.
-pub write-then-read : (m n : ℕ) (entries file : List ℕ) (room : ℕ) → writeOf m n entries room ≡ gives file → matrixOf file ≡ gives (taken m n entries)
+-- A written file is that of the matrix of the entries.
+pub written-is : (m n : ℕ) (entries file : List ℕ) (room : ℕ) → writeOf m n entries room ≡ gives file → matrixOf file ≡ gives (taken m n entries)
 unfolding writeOf
-write-then-read m n entries file room e =
+written-is m n entries file room e =
     let c1 = passed 3 (outside most-rows m) _ file e in
     let c2 = passed 3 (outside most-columns n) _ file (c1 .1) in
     let c3 = passed 13 (ltb (length entries) (m * n)) _ file (c2 .1) in
@@ -230,11 +230,16 @@ write-then-read m n entries file room e =
     } in
     rw (← gives-inj (c6 .1)) (write-read (taken m n entries) ok)
 
--- What is built is an accepted file that reads as the matrix of the shares.
-pub build-then-read : (usage : Usage) (weights : List ℕ) (n room : ℕ) (file : List ℕ) → buildOf usage weights n room ≡ gives file →
+-- A written matrix reads as itself, with the same rows, columns and entries, into any buffer with room for them.
+pub write-then-read : (m n : ℕ) (entries file : List ℕ) (room space : ℕ) → writeOf m n entries room ≡ gives file → m * n ≤ space →
+    readOf file space ≡ gives (taken m n entries)
+write-then-read m n entries file room space e h = read-room file space (taken m n entries) (written-is m n entries file room e) h
+
+-- What is built is the file of the matrix of the shares.
+pub built-is : (usage : Usage) (weights : List ℕ) (n room : ℕ) (file : List ℕ) → buildOf usage weights n room ≡ gives file →
     matrixOf file ≡ gives (built usage weights n)
 unfolding buildOf
-build-then-read usage weights n room file e =
+built-is usage weights n room file e =
     let c1 = passed 3 (outside most-rows (length weights)) _ file e in
     let c2 = passed 3 (outside most-columns n) _ file (c1 .1) in
     let c3 = passed 11 (eqb (sum usage weights) 0) _ file (c2 .1) in
@@ -243,3 +248,10 @@ build-then-read usage weights n room file e =
     let c = within most-columns n (c2 .0) in
     let z : 0 < sum usage weights = omega (arith, eqb-false (sum usage weights) 0 (c3 .0)) in
     rw (← gives-inj (c4 .1)) (write-read (built usage weights n) (built-accepted usage weights n (r .0) (r .1) (c .0) (c .1) z))
+
+-- It reads as that matrix, into any buffer with room for its entries.
+pub build-then-read : (usage : Usage) (weights : List ℕ) (n room : ℕ) (file : List ℕ) (space : ℕ) → buildOf usage weights n room ≡ gives file →
+    length weights * n ≤ space → readOf file space ≡ gives (built usage weights n)
+unfolding built
+build-then-read usage weights n room file space e h =
+    read-room file space (built usage weights n) (built-is usage weights n room file e) h
