@@ -4,6 +4,7 @@ pub mod Fields
 pub mod Matrix
 pub mod Files
 pub mod Strings
+pub mod Matrices
 pub mod Live
 pub mod Checks
 pub mod Writing

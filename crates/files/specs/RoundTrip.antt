@@ -15,6 +15,7 @@ use Rattle.laws.specs.Outcome.{gives, refuse, _>>_, _>>=_, passed, bound, gives
 use Rattle.files.specs.Fields.{fieldOf, fieldBytes, width, bitOf, packedBit, bit-le, padded, padded-le, padded-below, padded-above, padded-both, packed, length-packed, spare, spare-none, spare-zero}
 use Rattle.files.specs.Matrix.{Matrix, sizes, Accepted, bit, total, outside, most-rows, most-columns}
 use Rattle.files.specs.Files.{fileLength, headerBytes, matrixFile, headerOf, bodyOf, matrixOf, readOf, writeOf, unpacked}
+use Rattle.files.specs.Matrices.{equal-bits}
 use Rattle.files.specs.Checks.{inside, within, header-gives, header-fields, Read, matrix-read, unpacked-bit, read-room}
 use Rattle.files.specs.Weights.{sum, built, buildOf}
 use Rattle.files.specs.Building.{built-accepted}
@@ -61,18 +62,14 @@ module _ (M : Matrix) (ok : Accepted M) where
       one : (v : ℕ) → v < M .rows → spare rows (M .columns) (v * width (M .columns)) ≡ false
       one v h = spare-none rows (M .columns) (v * width (M .columns)) (λ i a b. row-bit v i h b ∙ sym (padded-above (M .columns) (bit M v) i a))
 
-  entries-same : blocks (M .rows) (λ v. upto (M .columns) (bitOf rows (v * width (M .columns)))) ≡ M .entries
-  unfolding bit unpacked
-  entries-same =
-      table-ext 0 (M .rows) (M .columns) (blocks (M .rows) (λ v. upto (M .columns) (bitOf rows (v * width (M .columns))))) (M .entries)
-      (length-blocks (M .columns) (λ v. upto (M .columns) (bitOf rows (v * width (M .columns))))
-      (λ v. length-upto (M .columns) (bitOf rows (v * width (M .columns)))) (M .rows))
-      (ok .whole)
-      (λ v c h l. unpacked-bit rows (sizes M) v c h l ∙ (row-bit v c h (omega arith) ∙ sym (padded-below (M .columns) (bit M v) c l)))
-
   same : unpacked rows (sizes M) ≡ M
   unfolding unpacked
-  same = ap (λ (e : List ℕ). record { rows = M .rows; columns = M .columns; entries = e }) entries-same
+  same =
+      equal-bits (unpacked rows (sizes M)) M
+      (length-blocks (M .columns) (λ v. upto (M .columns) (bitOf rows (v * width (M .columns))))
+      (λ v. length-upto (M .columns) (bitOf rows (v * width (M .columns)))) (M .rows))
+      (ok .whole) refl refl
+      (λ v c h l. unpacked-bit rows (sizes M) v c h l ∙ (row-bit v c h (omega arith) ∙ sym (padded-below (M .columns) (bit M v) c l)))
 
   header-same : headerOf (matrixFile M) ≡ gives (sizes M)
   header-same =

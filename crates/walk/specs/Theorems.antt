@@ -15,13 +15,13 @@ use Rattle.files.specs.Fields.{width, bitOf}
 use Rattle.files.specs.Matrix.{Matrix, Accepted, bit, p, total}
 use Rattle.files.specs.Files.{matrixOf}
 use Rattle.files.specs.Live.{total-from}
-use Rattle.files.specs.RoundTrip.{read-accepted}
+use Rattle.files.specs.RoundTrip.{accepted-bits, read-accepted}
 use Rattle.files.specs.Strings.{stringsOf}
 use Rattle.walk.specs.Walk.{Drawn, hit, drawn, walkOf, hits, misses}
 use Rattle.walk.specs.Steps.{Inside, walk-inside, On, walk-on}
 use Rattle.walk.specs.Strings.{Bits, strings, over, one-if, count, count-eq}
 use Rattle.walk.specs.Packed.{pack, pack-sound, pack-bits, bit-front, string-front}
-use Rattle.walk.specs.Matrices.{bits-of, same-matrix}
+use Rattle.walk.specs.Matrices.{same-matrix}
 use Rattle.walk.specs.Counts.{weigh, walks, hits-weigh, misses-weigh, sum-none, sum-one}
 
 -- ---- 1. the counts
@@ -33,7 +33,8 @@ module _ (M : Matrix) (a : Accepted M) where
   drawn-sum f missed =
       omega (
         arith,
-        walks (bit M) (M .rows) f missed (M .columns) 0 1 (2 ^ M .columns - total M) (λ v i l b k. bits-of M a v i l (omega arith)) (omega (arith, a .sum)),
+        walks (bit M) (M .rows) f missed (M .columns) 0 1 (2 ^ M .columns - total M)
+            (λ v i l b k. accepted-bits M a v i l (omega arith)) (omega (arith, a .sum)),
       )
 
   -- of the 2^n strings exactly p_v hit row v
