@@ -1,11 +1,12 @@
 -- How long the translation is: within the limit of a program, for every matrix within its own. Assumes nothing.
 use Prim.Native.Nat.{ℕ, zero, suc, _+_, _*_, _-_, _/_, _%_, _^_, _≤_}
-use mathlib.Core.Path.{_≡_, refl, ap}
+use mathlib.Core.Path.{_≡_, refl, sym, ap, _∙_}
 use mathlib.Core.List.{List, _++_}
-use native.Mathlib.Nat.{add-zero}
+use native.Mathlib.Nat.{add-zero, pow-succ'}
 use native.Mathlib.Omega.{arith}
 use lib.ListN.{length, length-append}
-use Rattle.laws.specs.Sums.{sumTo, sum-eq, sum-mono, sum-le}
+use lib.Pow.{shr-shr}
+use Rattle.laws.specs.Sums.{sumTo, sum-front, sum-pairs, sum-plus, sum-times, sum-same, sum-eq, sum-mono, sum-le}
 use Rattle.laws.specs.Lay.{blocks, length-blocks}
 use Rattle.files.specs.Live.{weight}
 use Rattle.programs.specs.declared.description.Instruction.{Instruction}
@@ -104,11 +105,50 @@ module _ (k m : ℕ) where
         sum-le n x (λ c. length (column k m bit c)) (λ c a. omega (arith, column-length bit c h)),
       )
 
--- ---- the limit: 7 bits for each of 128 rows would be too many, but together they have 448 set bits
-table : sumTo 128 (λ v. 1 + ones 7 v) ≡ 576
-unfolding sumTo ones
-table = refl
+-- ---- the set bits of all numbers of k bits
+-- one more bit, from the low end
+pub ones-low : (k v : ℕ) → ones (suc k) v ≡ v % 2 + ones k (v / 2)
+unfolding ones
+ones-low k v =
+    omega (
+      arith,
+      sum-front k (λ t. v / 2 ^ t % 2),
+      sum-eq k (λ t. v / 2 ^ suc t % 2) (λ t. v / 2 / 2 ^ t % 2) (λ t l. halved t),
+    )
+  where
+    halved : (t : ℕ) → v / 2 ^ suc t % 2 ≡ v / 2 / 2 ^ t % 2
+    halved t = ap (λ (x : ℕ). x % 2) (sym (shr-shr v 1 t ∙ ap (λ (i : ℕ). v / 2 ^ i) (omega arith)))
 
+ones-pair : (k v : ℕ) → ones (suc k) (2 * v + 0) + ones (suc k) (2 * v + 1) ≡ 1 + ones k v * 2
+ones-pair k v =
+    let a : (2 * v + 0) / 2 ≡ v = omega arith in
+    let b : (2 * v + 1) / 2 ≡ v = omega arith in
+    omega (arith, ones-low k (2 * v + 0), ones-low k (2 * v + 1), ap (ones k) a, ap (ones k) b)
+
+doubled : (k : ℕ) → k * 2 ^ (k - 1) * 2 ≡ k * 2 ^ k
+doubled zero = refl
+doubled (suc k) =
+    let e : suc k - 1 ≡ k = omega arith in
+    rw (e, pow-succ' 2 k) (omega arith)
+
+pub all-ones : (k : ℕ) → sumTo (2 ^ k) (λ v. ones k v) ≡ k * 2 ^ (k - 1)
+unfolding ones sumTo
+all-ones zero = refl
+all-ones (suc k) =
+    let e : suc k - 1 ≡ k = omega arith in
+    rw (e, pow-succ' 2 k)
+    (omega (
+      arith,
+      sum-pairs (2 ^ k) (λ v. ones (suc k) v),
+      sum-eq (2 ^ k) (λ v. ones (suc k) (2 * v + 0) + ones (suc k) (2 * v + 1)) (λ v. 1 + ones k v * 2) (λ v l. ones-pair k v),
+      sum-plus (2 ^ k) (λ v. 1 + ones k v * 2) (λ v. 1) (λ v. ones k v * 2) (λ v. refl),
+      sum-same (2 ^ k) 1 (λ v. 1) (λ v. refl),
+      sum-times (2 ^ k) (ones k) 2,
+      all-ones k,
+      doubled k,
+    ))
+
+-- ---- the limit: 7 bits for each of 128 rows would be too many, but together they have 7 × 64 set bits
 few-ones : (k m : ℕ) → k ≤ 7 → m ≤ 128 → sumTo m (λ v. 1 + ones k v) ≤ 576
 unfolding ones
 few-ones k m h l =
@@ -116,7 +156,9 @@ few-ones k m h l =
       arith,
       sum-mono m (λ v. 1 + ones k v) (λ v. 1 + ones 7 v) (λ v a. omega (arith, sum-up-to k 7 (λ t. v / 2 ^ t % 2) h)),
       sum-up-to m 128 (λ v. 1 + ones 7 v) l,
-      table,
+      sum-plus 128 (λ v. 1 + ones 7 v) (λ v. 1) (λ v. ones 7 v) (λ v. refl),
+      sum-same 128 1 (λ v. 1) (λ v. refl),
+      all-ones 7,
     )
 
 -- at most 962 instructions a column, 123,153 in all

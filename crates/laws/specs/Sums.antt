@@ -1,9 +1,9 @@
 -- Sums over the numbers below a bound, and tests of any of them. Assumes nothing.
 use Prim.Native.Nat.{ℕ, zero, suc, _+_, _*_, _≤_, _<_}
-use mathlib.Core.Path.{_≡_, refl, sym, subst}
+use mathlib.Core.Path.{_≡_, refl, sym, ap, subst}
 use mathlib.Core.Bool.{Bool, true, false, _||_}
 use mathlib.Core.Logic.{⊎-elim}
-use native.Mathlib.Nat.{eq-or-lt-of-le, le-of-suc-le-suc}
+use native.Mathlib.Nat.{add-zero, eq-or-lt-of-le, le-of-suc-le-suc}
 use native.Mathlib.Numerals.{add-one}
 use native.Mathlib.Omega.{arith}
 use Rattle.laws.specs.Tests.{neither}
@@ -28,6 +28,14 @@ pub sum-front : (n : ℕ) (g : ℕ → ℕ) → sumTo (suc n) g ≡ g 0 + sumTo 
 unfolding sumTo
 sum-front zero g = refl
 sum-front (suc n) g = omega (arith, sum-front n g)
+
+-- the terms in pairs
+pub sum-pairs : (n : ℕ) (g : ℕ → ℕ) → sumTo n (λ i. g (2 * i + 0) + g (2 * i + 1)) ≡ sumTo (2 * n) g
+unfolding sumTo
+sum-pairs zero g = refl
+sum-pairs (suc n) g =
+    let e : 2 * suc n ≡ suc (suc (2 * n)) = omega arith in
+    rw e (omega (arith, sum-pairs n g, ap g (add-zero (2 * n)), ap g (add-one (2 * n))))
 
 pub sum-plus : (n : ℕ) (g a b : ℕ → ℕ) → ((i : ℕ) → g i ≡ a i + b i) → sumTo n g ≡ sumTo n a + sumTo n b
 unfolding sumTo

@@ -3,23 +3,14 @@ use Prim.Native.Nat.{ℕ, zero, suc, _+_, _*_, _^_, _≤_, _<_}
 use mathlib.Core.Path.{_≡_, refl, ap, _∙_, fun-ext}
 use mathlib.Core.List.{_∷_}
 use mathlib.Core.Logic.{_≢_, ⊎-elim}
-use native.Mathlib.Nat.{add-zero, zero-add, eq-or-lt-of-le, le-of-suc-le-suc}
-use native.Mathlib.Numerals.{add-one}
+use native.Mathlib.Nat.{zero-add, eq-or-lt-of-le, le-of-suc-le-suc}
 use native.Mathlib.Omega.{arith}
 use lib.Dec.{eqb}
-use Rattle.laws.specs.Sums.{sumTo, sum-plus, sum-same, sum-front}
+use Rattle.laws.specs.Sums.{sumTo, sum-front, sum-pairs, sum-plus, sum-same}
 use Rattle.laws.specs.Digits.{number}
 use Rattle.files.specs.Live.{weight, total-from, total-step, go-on}
 use Rattle.walk.specs.Walk.{Drawn, hit, miss, Place, found, left, at, scan, then, walk, hits, misses}
 use Rattle.walk.specs.Strings.{strings, strings-many, over, over-same, over-strings, one-if}
-
--- ---- sums in pairs
-sum-pairs : (h : ℕ) (g : ℕ → ℕ) → sumTo h (λ d. g (2 * d + 0) + g (2 * d + 1)) ≡ sumTo (2 * h) g
-unfolding sumTo
-sum-pairs zero g = refl
-sum-pairs (suc h) g =
-    let e : 2 * suc h ≡ suc (suc (2 * h)) = omega arith in
-    rw e (omega (arith, sum-pairs h g, ap g (add-zero (2 * h)), ap g (add-one (2 * h))))
 
 -- ---- one row and one column
 -- a row, over the distances below b + n: 0 is hit where b is 1, and the others are one less
