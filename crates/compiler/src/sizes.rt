@@ -11,6 +11,7 @@ ghost use Rattle.compiler.specs.Room.{Roomy};
 ghost use Rattle.compiler.specs.EmittingColumns.{Counted, packedRows};
 ghost use Rattle.compiler.specs.EmittingProgram.{Measured, Packed};
 use files::bit;
+use files::width;
 use programs::Instruction;
 use programs::Program;
 
@@ -90,7 +91,7 @@ pub(crate) fn measure(bytes: &[u8], m: usize, n: usize) -> Measures
     ensures { λ r. ⌜ Measured (now (bytes .entry)) m n (r .bits) (r .count) (r .length) ⌝ }
 {
     let bits = row_bits(m);
-    let count = count_columns(bytes, (n + 7) / 8, m, n);
+    let count = count_columns(bytes, width(n), m, n);
     let length = program_length(bits, n, count);
     Measures {
         bits,

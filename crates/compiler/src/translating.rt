@@ -18,6 +18,7 @@ use files::Checked;
 use files::Refusal;
 use files::Written;
 use files::check;
+use files::width;
 use programs::Program;
 use programs::write_header;
 
@@ -43,7 +44,7 @@ fn write(bytes: &[u8], m: usize, n: usize, size: Measures, program: &mut [u8])
     let k = size.bits;
     write_header(describe(k, m, n, size.count), program);
     let mut at = begin(k, program, Program::HEADER);
-    at = columns(bytes, (n + 7) / 8, k, m, n, program, at);
+    at = columns(bytes, width(n), k, m, n, program, at);
     end(k, program, at);
 }
 

@@ -36,12 +36,11 @@ pub(crate) fn put_field(bytes: &mut [u8], at: usize, x: usize)
     bytes[at + 1] = (x / 256) as u8;
 }
 
-// Bytes that n bits take.
-pub(crate) fn width_of(n: usize) -> usize
-    requires { ⌜ n ≤ 65535 ⌝ }
+// The bytes that n bits take, whatever n is: no sum here can wrap.
+pub fn width(n: usize) -> usize
     ensures { λ r. ⌜ r ≡ width n ⌝ }
 {
-    (n + 7) / 8
+    n / 8 + (n % 8 + 7) / 8
 }
 
 // Bit i of the bits packed from byte `at` on, bit 0 the highest of the first byte; bits beyond the end are 0.
@@ -62,7 +61,7 @@ pub(crate) fn spare_set(bytes: &[u8], n: usize, at: usize) -> bool
     requires { ⌜ (0 < n) × (n ≤ 65535) × (at + width n ≤ length (now bytes)) ⌝ }
     ensures { λ r. ⌜ r ≡ spare (now (bytes .entry)) n at ⌝ }
 {
-    let w = width_of(n);
+    let w = width(n);
     let last = bytes[at + w - 1] as usize;
     last % (1usize << (8 * w - n)) != 0
 }

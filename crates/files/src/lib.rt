@@ -13,6 +13,7 @@ mod writing;
 
 pub use fields::bit;
 pub use fields::field;
+pub use fields::width;
 pub use packing::Strings;
 pub use packing::check_strings;
 pub use reading::COLUMNS;

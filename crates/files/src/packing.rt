@@ -6,7 +6,7 @@ ghost use Rattle.laws.specs.Sums.{any};
 ghost use Rattle.files.specs.Fields.{spare, width};
 ghost use Rattle.files.specs.Strings.{strung, stringsOf};
 use crate::fields::spare_set;
-use crate::fields::width_of;
+use crate::fields::width;
 use crate::reading::COLUMNS;
 use crate::refusals::Refusal;
 
@@ -21,7 +21,7 @@ pub(crate) fn any_spare(bytes: &[u8], count: usize, n: usize) -> bool
     requires { ⌜ (0 < n) × (n ≤ 65535) × (count * width n ≤ length (now bytes)) ⌝ }
     ensures { λ r. ⌜ r ≡ any count (λ v. spare (now (bytes .entry)) n (v * width n)) ⌝ }
 {
-    let w = width_of(n);
+    let w = width(n);
     for v in 0..count {
         if spare_set(bytes, n, v * w) {
             return true;
@@ -40,7 +40,7 @@ pub fn check_strings(count: usize, columns: usize, bytes: &[u8]) -> Strings
     if COLUMNS < columns {
         return Strings::Refused(Refusal::Size);
     }
-    if bytes.len() / width_of(columns) < count {
+    if bytes.len() / width(columns) < count {
         return Strings::Refused(Refusal::Buffer);
     }
     if any_spare(bytes, count, columns) {

@@ -9,7 +9,7 @@ ghost use Rattle.files.specs.Matrix.{Matrix, sizes};
 ghost use Rattle.files.specs.Files.{bodyOf, checked, headerOf, matrixOf, readOf, Whole};
 use crate::fields::bit;
 use crate::fields::field;
-use crate::fields::width_of;
+use crate::fields::width;
 use crate::live::fits;
 use crate::packing::any_spare;
 use crate::refusals::Refusal;
@@ -53,7 +53,7 @@ fn header(file: &[u8]) -> Checked
     if COLUMNS < columns {
         return Checked::Refused(Refusal::Size);
     }
-    if length != 8 + rows * width_of(columns) {
+    if length != 8 + rows * width(columns) {
         return Checked::Refused(Refusal::Length);
     }
     if file.len() != length {
@@ -71,7 +71,7 @@ fn body(file: &[u8], rows: usize, columns: usize) -> Checked
     if any_spare(bytes, rows, columns) {
         return Checked::Refused(Refusal::Bit);
     }
-    let w = width_of(columns);
+    let w = width(columns);
     if !fits(bytes, 8, w, rows, columns) {
         return Checked::Refused(Refusal::Sum);
     }
@@ -100,10 +100,10 @@ fn unpack_row(bytes: &[u8], at: usize, n: usize, entries: &mut [u8], to: usize)
 
 // Lays m packed rows of n bits into `entries`, row after row.
 fn unpack(bytes: &[u8], m: usize, n: usize, entries: &mut [u8])
-    requires { ⌜ (m ≤ 65535) × (n ≤ 65535) × (m * n ≤ length (now entries)) ⌝ }
+    requires { ⌜ m * n ≤ length (now entries) ⌝ }
     ensures { λ _. ⌜ now (entries .exit) ≡ layAt 0 (blocks m (λ v. upto n (bitOf (now (bytes .entry)) (v * width n)))) (now (entries .entry)) ⌝ }
 {
-    let w = width_of(n);
+    let w = width(n);
     for v in 0..m {
         unpack_row(bytes, v * w, n, entries, v * n);
     }

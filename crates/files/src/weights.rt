@@ -5,10 +5,10 @@ ghost use lib.ListN.{length, getD};
 ghost use Rattle.laws.specs.Lay.{blocks, lay, layAt};
 ghost use Rattle.laws.specs.Outcome.{laid, mapped};
 ghost use Rattle.files.specs.Fields.{packed, padded, width};
-ghost use Rattle.files.specs.Matrix.{most-columns, most-rows};
+ghost use Rattle.files.specs.Matrix.{most-rows};
 ghost use Rattle.files.specs.Files.{written};
 ghost use Rattle.files.specs.Weights.{Divided, Stepped, buildOf, counted, quotient, sum};
-use crate::fields::width_of;
+use crate::fields::width;
 use crate::reading::COLUMNS;
 use crate::reading::ROWS;
 use crate::refusals::Refusal;
@@ -96,11 +96,11 @@ fn divide_byte(rest: u64, s: u64, left: usize) -> Division
 
 // Lays the n bits of the quotient of 2^n × w by s, packed, into `file` from byte `at` on.
 fn divide_row(w: u64, s: u64, n: usize, file: &mut [u8], at: usize)
-    requires { ⌜ (w ≤ s) × (s < 2 ^ 40) × (n ≤ most-columns) × (at + width n ≤ length (now file)) ⌝ }
+    requires { ⌜ (w ≤ s) × (s < 2 ^ 40) × (at + width n ≤ length (now file)) ⌝ }
     ensures { λ _. ⌜ now (file .exit) ≡ layAt at (packed n (quotient s w)) (now (file .entry)) ⌝ }
 {
     let mut rest = w;
-    let bytes = width_of(n);
+    let bytes = width(n);
     for q in 0..bytes {
         let next = divide_byte(rest, s, n - 8 * q);
         file[at + q] = next.byte;
@@ -110,10 +110,10 @@ fn divide_row(w: u64, s: u64, n: usize, file: &mut [u8], at: usize)
 
 // Lays a row for each weight behind the header of `file`.
 fn divide_rows(usage: Usage, weights: &[u32], s: u64, n: usize, file: &mut [u8])
-    requires { ⌜ (s ≡ sum usage (now weights)) × (s < 2 ^ 40) × (length (now weights) ≤ most-rows) × (n ≤ most-columns) × (8 + length (now weights) * width n ≤ length (now file)) ⌝ }
+    requires { ⌜ (s ≡ sum usage (now weights)) × (s < 2 ^ 40) × (8 + length (now weights) * width n ≤ length (now file)) ⌝ }
     ensures { λ _. ⌜ now (file .exit) ≡ layAt 8 (blocks (length (now (weights .entry))) (λ v. packed n (quotient s (counted usage v (getD (now (weights .entry)) v 0))))) (now (file .entry)) ⌝ }
 {
-    let bytes = width_of(n);
+    let bytes = width(n);
     for v in 0..weights.len() {
         divide_row(
             counted_weight(usage, v, weights[v]),
@@ -148,7 +148,7 @@ pub fn build(weights: &[u32], columns: usize, usage: Usage, file: &mut [u8]) -> 
     if s == 0 {
         return Written::Refused(Refusal::Weightless);
     }
-    let length = 8 + rows * width_of(columns);
+    let length = 8 + rows * width(columns);
     if file.len() < length {
         return Written::Refused(Refusal::Buffer);
     }

@@ -11,7 +11,7 @@ ghost use Rattle.files.specs.Fields.{packed, padded, width};
 ghost use Rattle.files.specs.Matrix.{most-columns, most-rows};
 ghost use Rattle.files.specs.Files.{headerBytes, writeOf, written};
 use crate::fields::put_field;
-use crate::fields::width_of;
+use crate::fields::width;
 use crate::live::fits;
 use crate::reading::COLUMNS;
 use crate::reading::ROWS;
@@ -41,7 +41,7 @@ pub(crate) fn put_header(file: &mut [u8], m: usize, n: usize)
     requires { ⌜ (8 ≤ length (now file)) × (m ≤ most-rows) × (n ≤ most-columns) ⌝ }
     ensures { λ _. ⌜ now (file .exit) ≡ layAt 0 (headerBytes m n) (now (file .entry)) ⌝ }
 {
-    put_field(file, 0, 8 + m * width_of(n));
+    put_field(file, 0, 8 + m * width(n));
     put_field(file, 2, 32);
     put_field(file, 4, m);
     put_field(file, 6, n);
@@ -72,7 +72,7 @@ fn pack_row(entries: &[u8], from: usize, n: usize, file: &mut [u8], at: usize)
     requires { ⌜ (from + n ≤ length (now entries)) × (n ≤ most-columns) × (at + width n ≤ length (now file)) × ((i : ℕ) → i < n → getD (now entries) (from + i) 0 ≤ 1) ⌝ }
     ensures { λ _. ⌜ now (file .exit) ≡ layAt at (packed n (λ i. getD (now (entries .entry)) (from + i) 0)) (now (file .entry)) ⌝ }
 {
-    let w = width_of(n);
+    let w = width(n);
     for q in 0..w {
         file[at + q] = pack_byte(entries, from, n, q);
     }
@@ -83,7 +83,7 @@ fn pack_rows(entries: &[u8], m: usize, n: usize, file: &mut [u8])
     requires { ⌜ (m ≤ most-rows) × (n ≤ most-columns) × (m * n ≤ length (now entries)) × (8 + m * width n ≤ length (now file)) × ((i : ℕ) → i < m * n → getD (now entries) i 0 ≤ 1) ⌝ }
     ensures { λ _. ⌜ now (file .exit) ≡ layAt 8 (blocks m (λ v. packed n (λ i. getD (now (entries .entry)) (v * n + i) 0))) (now (file .entry)) ⌝ }
 {
-    let w = width_of(n);
+    let w = width(n);
     for v in 0..m {
         pack_row(entries, v * n, n, file, 8 + v * w);
     }
@@ -116,7 +116,7 @@ pub fn write(rows: usize, columns: usize, entries: &[u8], file: &mut [u8]) -> Wr
     if !fits(entries, 1, columns, rows, columns) {
         return Written::Refused(Refusal::Sum);
     }
-    let length = 8 + rows * width_of(columns);
+    let length = 8 + rows * width(columns);
     if file.len() < length {
         return Written::Refused(Refusal::Buffer);
     }

@@ -13,7 +13,6 @@ use Rattle.laws.specs.Outcome.{Outcome, refused, gives, refuse, _>>_, passed}
 use Rattle.files.specs.Fields.{bitOf, width}
 use Rattle.files.specs.Matrix.{outside, most-columns}
 use Rattle.files.specs.Refusal.{numberOf}
-use Rattle.files.specs.Checks.{within}
 use Rattle.files.specs.Strings.{stringsOf}
 use Rattle.lanes.specs.declared.slicing.Sliced.{Sliced}
 use Rattle.lanes.specs.declared.slicing.Sliced.the-variants as Sliced
@@ -64,11 +63,11 @@ word-done strings w i j word a b p = packed-done (λ j. bitOf strings (j * w) i)
 pub string-in : (j w q size : ℕ) → j < lanes → q < w → lanes * w ≤ size → j * w + q < size
 string-in j w q size h l b = omega (arith, row-end {v = j} {m = lanes} {size = size} w w h refl b)
 
--- what strings that passed say: their number of columns, and that they are there
+-- what strings that passed say: that they are there
 pub strings-there : (n : ℕ) (strings : List ℕ) (room : ℕ) → gives tt ≡ stringsOf lanes n strings → n ≤ room →
-    (n ≤ 65535) × (lanes * width n ≤ length strings) × (n ≤ room)
+    (lanes * width n ≤ length strings) × (n ≤ room)
 unfolding stringsOf
 strings-there n strings room e h =
     let c1 = passed 3 (outside most-columns n) _ tt (sym e) in
     let c2 = passed 13 (ltb (length strings) (lanes * width n)) _ tt (c1 .1) in
-    (omega (arith, within most-columns n (c1 .0) .1), ltb-false (length strings) (lanes * width n) (c2 .0), h)
+    (ltb-false (length strings) (lanes * width n) (c2 .0), h)

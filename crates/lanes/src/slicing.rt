@@ -9,6 +9,7 @@ ghost use Rattle.lanes.specs.Slicing.{lanes, sliceOf, sliced, wordOf};
 use files::Refusal;
 use files::Strings;
 use files::check_strings;
+use files::width;
 
 // Strings that are sliced, and samples that are read, at a time: one to each bit of a word.
 pub const LANES: usize = 64;
@@ -33,10 +34,10 @@ fn word(strings: &[u8], w: usize, i: usize) -> u64
 
 // Lays the n words of 64 strings of n bits at the front of `words`.
 fn put_words(strings: &[u8], n: usize, words: &mut [u64])
-    requires { ⌜ (n ≤ 65535) × (lanes * width n ≤ length (now strings)) × (n ≤ length (now words)) ⌝ }
+    requires { ⌜ (lanes * width n ≤ length (now strings)) × (n ≤ length (now words)) ⌝ }
     ensures { λ _. ⌜ now (words .exit) ≡ layAt 0 (upto n (wordOf (now (strings .entry)) (width n))) (now (words .entry)) ⌝ }
 {
-    let w = (n + 7) / 8;
+    let w = width(n);
     for i in 0..n {
         words[i] = word(strings, w, i);
     }

@@ -14,6 +14,7 @@ use files::Strings;
 use files::bit;
 use files::check;
 use files::check_strings;
+use files::width;
 
 // A refusal, the row that the walk hits, or a miss.
 pub enum Walked {
@@ -28,20 +29,20 @@ enum Drawn {
     Miss,
 }
 
-// Walks m packed rows of n bits, of which row v begins at byte v * width, on the packed string. A d of m or more that is left after a column can
-// never hit later, so the walk ends there, and d never wraps.
+// Walks m packed rows of n bits, of which row v begins at byte v * width(n), on the packed string. A d of m or more that is left after a
+// column can never hit later, so the walk ends there, and d never wraps.
 fn draw(rows: &[u8], m: usize, n: usize, string: &[u8]) -> Drawn
     requires { ⌜ (m ≤ 65535) × (n ≤ 65535) ⌝ }
     ensures { λ r. ⌜ drawnOf r ≡ walk (λ v. bitOf (now (rows .entry)) (v * width n)) m 0 0 (upto n (bitOf (now (string .entry)) 0)) ⌝ }
 {
-    let width = (n + 7) / 8;
+    let w = width(n);
     let mut d: usize = 0;
     let mut drawn = Drawn::Miss;
     'walk: for c in 0..n {
         d = 2 * d + bit(string, 0, c) as usize;
         for i in 0..m {
             let v = m - 1 - i;
-            if bit(rows, v * width, c) == 1 {
+            if bit(rows, v * w, c) == 1 {
                 if d == 0 {
                     drawn = Drawn::Hit { row: v, column: c };
                     break 'walk;

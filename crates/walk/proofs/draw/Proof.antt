@@ -4,8 +4,7 @@ use mathlib.Core.Logic.{⊎-elim}
 use mathlib.Core.Path.{_≡_, ap, _∙_}
 use Prim.Native.Nat.{_+_, _-_, _*_, _≤_, _<_}
 use Rattle.laws.specs.Lay.{upto}
-use Rattle.files.specs.Fields.{bitOf}
-use Rattle.files.specs.Fields as F
+use Rattle.files.specs.Fields.{bitOf, width}
 use Rattle.walk.specs.declared.Drawn.the-variants as Drawn
 use Rattle.walk.specs.Walk as W
 use Rattle.walk.specs.Turns.{Left, Within, start, into, pass, strike, near, after, lost, over, place-fits}
@@ -13,21 +12,21 @@ use Rattle.walk.proofs.draw.Statement.{statement}
 use Rattle.walk.proofs.draw.Tie as tie
 
 abbrev Inv-loop : tie.InvT-loop
-Inv-loop rows m n string width d₀ drawn₀ c i₀ d drawn i =
-    (drawn ≡ Drawn.Miss) × (width ≡ F.width n) × (i ≤ m) × (d ≤ 2 * m + 1) × (c < n) × Within (λ v. bitOf rows (v * F.width n)) (bitOf string 0) m n (W.walk (λ v. bitOf rows (v * F.width n)) m 0 0 (upto n (bitOf string 0))) c i d
+Inv-loop rows m n string w d₀ drawn₀ c i₀ d drawn i =
+    (drawn ≡ Drawn.Miss) × (w ≡ width n) × (i ≤ m) × (d ≤ 2 * m + 1) × (c < n) × Within (λ v. bitOf rows (v * width n)) (bitOf string 0) m n (W.walk (λ v. bitOf rows (v * width n)) m 0 0 (upto n (bitOf string 0))) c i d
 
 abbrev μ-loop : tie.MeasureT-loop
-μ-loop rows m n string width d₀ drawn₀ c i₀ d drawn i = m - i
+μ-loop rows m n string w d₀ drawn₀ c i₀ d drawn i = m - i
 
 abbrev Inv-walk : tie.InvT-walk
-Inv-walk rows m n string width d₀ drawn₀ c₀ d drawn c =
-    (drawn ≡ Drawn.Miss) × (width ≡ F.width n) × (c ≤ n) × (d ≤ m) × Left (λ v. bitOf rows (v * F.width n)) (bitOf string 0) m n (W.walk (λ v. bitOf rows (v * F.width n)) m 0 0 (upto n (bitOf string 0))) c d
+Inv-walk rows m n string w d₀ drawn₀ c₀ d drawn c =
+    (drawn ≡ Drawn.Miss) × (w ≡ width n) × (c ≤ n) × (d ≤ m) × Left (λ v. bitOf rows (v * width n)) (bitOf string 0) m n (W.walk (λ v. bitOf rows (v * width n)) m 0 0 (upto n (bitOf string 0))) c d
 
 abbrev μ-walk : tie.MeasureT-walk
-μ-walk rows m n string width d₀ drawn₀ c₀ d drawn c = n - c
+μ-walk rows m n string w d₀ drawn₀ c₀ d drawn c = n - c
 
-add-width : tie.Need-add-width Inv-loop μ-loop Inv-walk μ-walk
-add-width c = search needs
+width-requires : tie.Need-width-requires Inv-loop μ-loop Inv-walk μ-walk
+width-requires c κs = search needs
 
 walk-holds : tie.Need-walk-holds Inv-loop μ-loop Inv-walk μ-walk
 walk-holds c = (search needs, search needs, search needs, search needs, start _ _ _ _)
@@ -101,7 +100,7 @@ draw-spec =
     μ-loop
     Inv-walk
     μ-walk
-    add-width
+    width-requires
     walk-holds
     mul-d
     bit-requires

@@ -7,24 +7,31 @@ use Rattle.compiler.proofs.sizes.measure.Tie as tie
 row-bits-requires : tie.Need-row-bits-requires
 row-bits-requires c κs = search needs
 
-add-count-columns : tie.Need-add-count-columns
-add-count-columns c = search needs
+width-requires : tie.Need-width-requires
+width-requires c κs = search needs
 
 count-columns-requires : tie.Need-count-columns-requires
-count-columns-requires c κs = search needs
+count-columns-requires c κs = (search needs, search needs, search needs, rw (c .width .ensures) (c .before .before .before .pre .roomy))
 
 program-length-requires : tie.Need-program-length-requires
-program-length-requires c κs = (few-instructions _ _ _ _ _ (c .before .before .before .pre) (c .before .row-bits .ensures) (c .count-columns .ensures), columns-short _ _ _ _ _ (c .before .before .before .pre) (c .before .row-bits .ensures) (c .count-columns .ensures))
+program-length-requires c κs =
+    let p = c .before .before .before .before .pre in
+    let k = c .before .before .row-bits .ensures in
+    let count = rw (c .before .width .ensures) at (c .count-columns .ensures) in
+    (few-instructions _ _ _ _ _ p k count, columns-short _ _ _ _ _ p k count)
 
 returns : tie.Need-returns
-returns c = measured _ _ _ _ _ (c .before .before .before .before .pre) (c .before .before .row-bits .ensures) (c .before .count-columns .ensures) _ (c .program-length .ensures)
+returns c =
+    let p = c .before .before .before .before .before .pre in
+    let count = rw (c .before .before .width .ensures) at (c .before .count-columns .ensures) in
+    measured _ _ _ _ _ p (c .before .before .before .row-bits .ensures) count _ (c .program-length .ensures)
 
 pub measure-spec : {M : Type 1} → statement M
 measure-spec =
     tie.close
     (tie.spec
     row-bits-requires
-    add-count-columns
+    width-requires
     count-columns-requires
     program-length-requires
     returns)

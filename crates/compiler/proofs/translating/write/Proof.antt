@@ -16,24 +16,37 @@ begin-requires c κs =
     let l = planned _ _ _ _ _ _ _ (c .before .before .before .before .before .before .before .before .pre .0 .0) (c .before .before .before .before .before .before .before .before .pre .0 .1) (c .before .before .before .before .before .before .before .before .pre .1) in
     (omega (arith, l .parts), l .fit .outputs)
 
-add-columns : tie.Need-add-columns
-add-columns c = search needs
+width-requires : tie.Need-width-requires
+width-requires c κs = search needs
 
 columns-requires : tie.Need-columns-requires
 columns-requires c κs =
-    let l = planned _ _ _ _ _ _ _ (c .before .before .before .before .before .before .before .before .before .before .before .before .pre .0 .0) (c .before .before .before .before .before .before .before .before .before .before .before .before .pre .0 .1) (c .before .before .before .before .before .before .before .before .before .before .before .before .pre .1) in
+    let begun = c .before .before .before .before in
+    let s = begun .before .before .before .before .before .before .before .before .before .pre in
+    let l = planned _ _ _ _ _ _ _ (s .0 .0) (s .0 .1) (s .1) in
+    rw (c .before .width .ensures)
     ((omega (arith, l .parts), record { fit = l .fit; few-rows = search needs; few-bytes = search needs }), (search needs, search needs))
 
 end-requires : tie.Need-end-requires
 end-requires c κs =
-    let l = planned _ _ _ _ _ _ _ (c .before .before .before .before .before .before .before .before .before .before .before .before .before .before .before .before .pre .0 .0) (c .before .before .before .before .before .before .before .before .before .before .before .before .before .before .before .before .pre .0 .1) (c .before .before .before .before .before .before .before .before .before .before .before .before .before .before .before .before .pre .1) in
-    (omega (arith, l .parts), l .fit .outputs)
+    let laid = c .before .before .before in
+    let s = laid .before .before .before .before .before .before .before .before .before .before .before .before .before .before .pre in
+    let l = planned _ _ _ _ _ _ _ (s .0 .0) (s .0 .1) (s .1) in
+    let e = rw (laid .before .before .width .ensures) at (laid .columns .ensures) in
+    (omega (arith, l .parts, e .behind), l .fit .outputs)
 
 same-length : tie.Need-same-length
 same-length c = search needs
 
 returns : tie.Need-returns
-returns c = program-written _ _ _ _ _ _ _ _ (c .before .before .before .before .before .before .before .before .before .before .before .before .before .before .before .before .before .before .before .pre .0 .1) (planned _ _ _ _ _ _ _ (c .before .before .before .before .before .before .before .before .before .before .before .before .before .before .before .before .before .before .before .pre .0 .0) (c .before .before .before .before .before .before .before .before .before .before .before .before .before .before .before .before .before .before .before .pre .0 .1) (c .before .before .before .before .before .before .before .before .before .before .before .before .before .before .before .before .before .before .before .pre .1)) (c .before .before .before .before .before .before .before .before .before .before .before .before .before .before .before .before .describe .ensures) (c .before .before .before .before .before .before .before .before .before .before .before .before .before .before .write-header .ensures .1) (c .before .before .before .before .before .before .before .before .before .before .begin .ensures) (c .before .before .before .before .before .before .columns .ensures) (c .before .before .end .ensures)
+returns c =
+    let laid = c .before .before .before .before .before .before in
+    let begun = laid .before .before .before .before .before in
+    let told = begun .before .before .before .before in
+    let s = told .before .before .before .before .before .pre in
+    program-written _ _ _ _ _ _ _ _ (s .0 .1) (planned _ _ _ _ _ _ _ (s .0 .0) (s .0 .1) (s .1)) (told .before .before .describe .ensures)
+    (told .write-header .ensures .1) (begun .begin .ensures) (rw (laid .before .before .width .ensures) at (laid .columns .ensures))
+    (c .before .before .end .ensures)
 
 pub write-spec : {M : Type 1} → statement M
 write-spec =
@@ -42,7 +55,7 @@ write-spec =
     describe-requires
     write-header-requires
     begin-requires
-    add-columns
+    width-requires
     columns-requires
     end-requires
     same-length

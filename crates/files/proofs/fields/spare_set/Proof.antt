@@ -6,8 +6,8 @@ use Rattle.files.specs.Fields.{spare-read, divisor}
 use Rattle.files.proofs.fields.spare_set.Statement.{statement}
 use Rattle.files.proofs.fields.spare_set.Tie as tie
 
-width-of-requires : tie.Need-width-of-requires
-width-of-requires c κs = search needs
+width-requires : tie.Need-width-requires
+width-requires c κs = search needs
 
 add-last : tie.Need-add-last
 add-last c = search needs
@@ -19,7 +19,7 @@ shared-slice-read-last : tie.Need-shared-slice-read-last
 shared-slice-read-last c = search needs
 
 cast-last : tie.Need-cast-last
-cast-last c = omega (arith, c .shared-slice-known2 .given (c .before .before .before .args .at + c .before .width-of .result - 1))
+cast-last c = omega (arith, c .shared-slice-known2 .given (c .before .before .before .args .at + c .before .width .result - 1))
 
 mul-result : tie.Need-mul-result
 mul-result c = search needs
@@ -31,16 +31,16 @@ shl-result : tie.Need-shl-result
 shl-result c = search needs
 
 rem-result : tie.Need-rem-result
-rem-result c = rw (c .before .width-of .ensures) (divisor _)
+rem-result c = rw (c .before .width .ensures) (divisor _)
 
 returns : tie.Need-returns
-returns c = rw (c .before .width-of .ensures) (spare-read _ _ _ (c .before .before .before .pre .0))
+returns c = rw (c .before .width .ensures) (spare-read _ _ _ (c .before .before .before .pre .0))
 
 pub spare-set-spec : {M : Type 1} → statement M
 spare-set-spec =
     tie.close
     (tie.spec
-    width-of-requires
+    width-requires
     add-last
     sub-last
     shared-slice-read-last

@@ -16,17 +16,17 @@ Inv-loop bytes count n w v₀ v = (v ≤ count) × (w ≡ width n) × (any v (λ
 abbrev μ-loop : tie.MeasureT-loop
 μ-loop bytes count n w v₀ v = count - v
 
-width-of-requires : tie.Need-width-of-requires Inv-loop μ-loop
-width-of-requires c κs = search needs
+width-requires : tie.Need-width-requires Inv-loop μ-loop
+width-requires c κs = search needs
 
 loop-holds : tie.Need-loop-holds Inv-loop μ-loop
 loop-holds c = (search needs, search needs, any-none _)
 
 mul-spare-set : tie.Need-mul-spare-set Inv-loop μ-loop
-mul-spare-set c = omega (arith, row-end (c .before .before .width-of .result) (width (c .before .before .before .before .args .n)) (c .loop-test .taken) (c .before .loop .inv .1) (c .before .before .before .before .pre .2))
+mul-spare-set c = omega (arith, row-end (c .before .before .width .result) (width (c .before .before .before .before .args .n)) (c .loop-test .taken) (c .before .loop .inv .1) (c .before .before .before .before .pre .2))
 
 spare-set-requires : tie.Need-spare-set-requires Inv-loop μ-loop
-spare-set-requires c κs = (search needs, search needs, omega (arith, row-end (c .before .before .width-of .result) (width (c .before .before .before .before .args .n)) (c .loop-test .taken) (c .before .loop .inv .1) (c .before .before .before .before .pre .2)))
+spare-set-requires c κs = (search needs, search needs, omega (arith, row-end (c .before .before .width .result) (width (c .before .before .before .before .args .n)) (c .loop-test .taken) (c .before .loop .inv .1) (c .before .before .before .before .pre .2)))
 
 returns : tie.Need-returns Inv-loop μ-loop
 returns c = sym (any-found _ _ _ (c .before .before .loop-test .taken) (rw (← c .before .before .before .loop .inv .1) (sym (c .before .spare-set .ensures) ∙ c .if1 .taken)))
@@ -49,7 +49,7 @@ any-spare-spec =
     (tie.spec
     Inv-loop
     μ-loop
-    width-of-requires
+    width-requires
     loop-holds
     mul-spare-set
     spare-set-requires

@@ -14,23 +14,23 @@ returns c = strings-size _ _ _ (below most-columns _ (c .if1 .taken))
 returns-2 : tie.Need-returns-2
 returns-2 c = strings-size _ _ _ (above most-columns _ (c .before .if1 .left) (c .if2 .taken))
 
-width-of-requires : tie.Need-width-of-requires
-width-of-requires c κs = search needs
+width-requires : tie.Need-width-requires
+width-requires c κs = search needs
 
 div-if3 : tie.Need-div-if3
-div-if3 c = omega (arith, c .width-of .ensures)
+div-if3 c = omega (arith, c .width .ensures)
 
 returns-3 : tie.Need-returns-3
-returns-3 c = strings-short _ _ _ (inside most-columns _ (c .before .before .before .if1 .left) (c .before .before .if2 .left)) (c .before .before .before .if1 .left) _ (c .before .width-of .ensures) (c .if3 .taken)
+returns-3 c = strings-short _ _ _ (inside most-columns _ (c .before .before .before .if1 .left) (c .before .before .if2 .left)) (c .before .before .before .if1 .left) _ (c .before .width .ensures) (c .if3 .taken)
 
 any-spare-requires : tie.Need-any-spare-requires
-any-spare-requires c κs = (search needs, search needs, strings-room _ _ (c .before .before .before .before .before .args .bytes .now) (inside most-columns _ (c .before .before .before .if1 .left) (c .before .before .if2 .left)) (c .before .before .before .if1 .left) _ (c .before .width-of .ensures) (c .if3 .left))
+any-spare-requires c κs = (search needs, search needs, strings-room _ _ (c .before .before .before .before .before .args .bytes .now) (inside most-columns _ (c .before .before .before .if1 .left) (c .before .before .if2 .left)) (c .before .before .before .if1 .left) _ (c .before .width .ensures) (c .if3 .left))
 
 returns-4 : tie.Need-returns-4
-returns-4 c = strings-spare _ _ _ (inside most-columns _ (c .before .before .before .before .before .if1 .left) (c .before .before .before .before .if2 .left)) (c .before .before .before .before .before .if1 .left) _ (c .before .before .before .width-of .ensures) (c .before .before .if3 .left) (sym (c .before .any-spare .ensures) ∙ c .if4 .taken)
+returns-4 c = strings-spare _ _ _ (inside most-columns _ (c .before .before .before .before .before .if1 .left) (c .before .before .before .before .if2 .left)) (c .before .before .before .before .before .if1 .left) _ (c .before .before .before .width .ensures) (c .before .before .if3 .left) (sym (c .before .any-spare .ensures) ∙ c .if4 .taken)
 
 returns-5 : tie.Need-returns-5
-returns-5 c = strings-sound _ _ _ (inside most-columns _ (c .before .before .before .before .before .if1 .left) (c .before .before .before .before .if2 .left)) (c .before .before .before .before .before .if1 .left) _ (c .before .before .before .width-of .ensures) (c .before .before .if3 .left) (sym (c .before .any-spare .ensures) ∙ c .if4 .left)
+returns-5 c = strings-sound _ _ _ (inside most-columns _ (c .before .before .before .before .before .if1 .left) (c .before .before .before .before .if2 .left)) (c .before .before .before .before .before .if1 .left) _ (c .before .before .before .width .ensures) (c .before .before .if3 .left) (sym (c .before .any-spare .ensures) ∙ c .if4 .left)
 
 pub check-strings-spec : {M : Type 1} → statement M
 check-strings-spec =
@@ -38,7 +38,7 @@ check-strings-spec =
     (tie.spec
     returns
     returns-2
-    width-of-requires
+    width-requires
     div-if3
     returns-3
     any-spare-requires

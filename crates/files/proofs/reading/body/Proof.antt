@@ -26,8 +26,8 @@ any-spare-requires c κs = (search needs, search needs, rw (rest-is, length-drop
 returns : tie.Need-returns
 returns c = body-spare _ _ (sym (rw rest-is at (c .before .any-spare .ensures)) ∙ c .if1 .taken)
 
-width-of-requires : tie.Need-width-of-requires
-width-of-requires c κs = search needs
+width-requires : tie.Need-width-requires
+width-requires c κs = search needs
 
 fits-requires : tie.Need-fits-requires
 fits-requires c κs = (
@@ -35,18 +35,18 @@ fits-requires c κs = (
   search needs,
   search needs,
   search needs,
-  λ v i h l. rw (rest-is, length-drop) (omega (arith, row-end {size = length (c .before .before .before .before .before .args .file .now) - 8} (c .width-of .result) (width (c .before .before .before .before .before .args .columns)) h (c .width-of .ensures) (omega arith))),
+  λ v i h l. rw (rest-is, length-drop) (omega (arith, row-end {size = length (c .before .before .before .before .before .args .file .now) - 8} (c .width .result) (width (c .before .before .before .before .before .args .columns)) h (c .width .ensures) (omega arith))),
 )
 
 returns-2 : tie.Need-returns-2
 returns-2 c =
     body-sum _ _ (sym (rw rest-is at (c .before .before .before .before .any-spare .ensures)) ∙ c .before .before .before .if1 .left)
-    (live-sum _ _ _ _ (c .before .before .width-of .ensures) (rw rest-is at (c .before .fits2 .ensures)) ∙ c .if2 .taken)
+    (live-sum _ _ _ _ (c .before .before .width .ensures) (rw rest-is at (c .before .fits2 .ensures)) ∙ c .if2 .taken)
 
 returns-3 : tie.Need-returns-3
 returns-3 c =
     body-gives _ _ (sym (rw rest-is at (c .before .before .before .before .any-spare .ensures)) ∙ c .before .before .before .if1 .left)
-    (live-sum _ _ _ _ (c .before .before .width-of .ensures) (rw rest-is at (c .before .fits2 .ensures)) ∙ c .if2 .left)
+    (live-sum _ _ _ _ (c .before .before .width .ensures) (rw rest-is at (c .before .fits2 .ensures)) ∙ c .if2 .left)
 
 pub body-spec : {M : Type 1} → statement M
 body-spec =
@@ -57,7 +57,7 @@ body-spec =
     part-bytes-end
     any-spare-requires
     returns
-    width-of-requires
+    width-requires
     fits-requires
     returns-2
     returns-3)

@@ -41,23 +41,23 @@ returns-6 c = header-columns _ _ _ _ _ (c .before .before .before .before .befor
 returns-7 : tie.Need-returns-7
 returns-7 c = header-columns _ _ _ _ _ (c .before .before .before .before .before .before .before .before .before .field .ensures .0) (c .before .before .before .before .before .before .before .field2 .ensures .0) (c .before .before .before .before .before .field3 .ensures .0) (c .before .before .field4 .ensures .0) (c .before .before .before .before .before .before .before .before .before .before .if1 .left) (c .before .before .before .before .before .before .before .before .if2 .left) (c .before .before .before .before .before .before .if3 .left) (inside most-rows _ (c .before .before .before .before .if4 .left) (c .before .before .before .if5 .left)) (above most-columns _ (c .before .if6 .left) (c .if7 .taken))
 
-width-of-requires : tie.Need-width-of-requires
-width-of-requires c κs = search needs
+width-requires : tie.Need-width-requires
+width-requires c κs = search needs
 
 mul-if8 : tie.Need-mul-if8
-mul-if8 c = record { fits = omega (arith, mul-le-mul {n₁ = c .before .before .before .before .before .before .field3 .result} {m₁ = c .width-of .result} {n₂ = 128} {m₂ = 16} (search needs) (search needs)) }
+mul-if8 c = record { fits = omega (arith, mul-le-mul {n₁ = c .before .before .before .before .before .before .field3 .result} {m₁ = c .width .result} {n₂ = 128} {m₂ = 16} (search needs) (search needs)) }
 
 add-if8 : tie.Need-add-if8
-add-if8 c = record { fits = omega (arith, mul-le-mul {n₁ = c .before .before .before .before .before .before .field3 .result} {m₁ = c .width-of .result} {n₂ = 128} {m₂ = 16} (search needs) (search needs)) }
+add-if8 c = record { fits = omega (arith, mul-le-mul {n₁ = c .before .before .before .before .before .before .field3 .result} {m₁ = c .width .result} {n₂ = 128} {m₂ = 16} (search needs) (search needs)) }
 
 returns-8 : tie.Need-returns-8
-returns-8 c = header-length _ _ _ _ _ (c .before .before .before .before .before .before .before .before .before .before .before .field .ensures .0) (c .before .before .before .before .before .before .before .before .before .field2 .ensures .0) (c .before .before .before .before .before .before .before .field3 .ensures .0) (c .before .before .before .before .field4 .ensures .0) (c .before .before .before .before .before .before .before .before .before .before .before .before .if1 .left) (c .before .before .before .before .before .before .before .before .before .before .if2 .left) (c .before .before .before .before .before .before .before .before .if3 .left) (inside most-rows _ (c .before .before .before .before .before .before .if4 .left) (c .before .before .before .before .before .if5 .left)) (inside most-columns _ (c .before .before .before .if6 .left) (c .before .before .if7 .left)) (rw (c .before .width-of .ensures) at (c .if8 .taken))
+returns-8 c = header-length _ _ _ _ _ (c .before .before .before .before .before .before .before .before .before .before .before .field .ensures .0) (c .before .before .before .before .before .before .before .before .before .field2 .ensures .0) (c .before .before .before .before .before .before .before .field3 .ensures .0) (c .before .before .before .before .field4 .ensures .0) (c .before .before .before .before .before .before .before .before .before .before .before .before .if1 .left) (c .before .before .before .before .before .before .before .before .before .before .if2 .left) (c .before .before .before .before .before .before .before .before .if3 .left) (inside most-rows _ (c .before .before .before .before .before .before .if4 .left) (c .before .before .before .before .before .if5 .left)) (inside most-columns _ (c .before .before .before .if6 .left) (c .before .before .if7 .left)) (rw (c .before .width .ensures) at (c .if8 .taken))
 
 returns-9 : tie.Need-returns-9
-returns-9 c = header-left _ _ _ _ _ (c .before .before .before .before .before .before .before .before .before .before .before .before .field .ensures .0) (c .before .before .before .before .before .before .before .before .before .before .field2 .ensures .0) (c .before .before .before .before .before .before .before .before .field3 .ensures .0) (c .before .before .before .before .before .field4 .ensures .0) (c .before .before .before .before .before .before .before .before .before .before .before .before .before .if1 .left) (c .before .before .before .before .before .before .before .before .before .before .before .if2 .left) (c .before .before .before .before .before .before .before .before .before .if3 .left) (inside most-rows _ (c .before .before .before .before .before .before .before .if4 .left) (c .before .before .before .before .before .before .if5 .left)) (inside most-columns _ (c .before .before .before .before .if6 .left) (c .before .before .before .if7 .left)) (rw (c .before .before .width-of .ensures) at (c .before .if8 .left)) (c .if9 .taken)
+returns-9 c = header-left _ _ _ _ _ (c .before .before .before .before .before .before .before .before .before .before .before .before .field .ensures .0) (c .before .before .before .before .before .before .before .before .before .before .field2 .ensures .0) (c .before .before .before .before .before .before .before .before .field3 .ensures .0) (c .before .before .before .before .before .field4 .ensures .0) (c .before .before .before .before .before .before .before .before .before .before .before .before .before .if1 .left) (c .before .before .before .before .before .before .before .before .before .before .before .if2 .left) (c .before .before .before .before .before .before .before .before .before .if3 .left) (inside most-rows _ (c .before .before .before .before .before .before .before .if4 .left) (c .before .before .before .before .before .before .if5 .left)) (inside most-columns _ (c .before .before .before .before .if6 .left) (c .before .before .before .if7 .left)) (rw (c .before .before .width .ensures) at (c .before .if8 .left)) (c .if9 .taken)
 
 returns-10 : tie.Need-returns-10
-returns-10 c = header-gives _ _ _ _ _ (c .before .before .before .before .before .before .before .before .before .before .before .before .field .ensures .0) (c .before .before .before .before .before .before .before .before .before .before .field2 .ensures .0) (c .before .before .before .before .before .before .before .before .field3 .ensures .0) (c .before .before .before .before .before .field4 .ensures .0) (c .before .before .before .before .before .before .before .before .before .before .before .before .before .if1 .left) (c .before .before .before .before .before .before .before .before .before .before .before .if2 .left) (c .before .before .before .before .before .before .before .before .before .if3 .left) (inside most-rows _ (c .before .before .before .before .before .before .before .if4 .left) (c .before .before .before .before .before .before .if5 .left)) (inside most-columns _ (c .before .before .before .before .if6 .left) (c .before .before .before .if7 .left)) (rw (c .before .before .width-of .ensures) at (c .before .if8 .left)) (c .if9 .left)
+returns-10 c = header-gives _ _ _ _ _ (c .before .before .before .before .before .before .before .before .before .before .before .before .field .ensures .0) (c .before .before .before .before .before .before .before .before .before .before .field2 .ensures .0) (c .before .before .before .before .before .before .before .before .field3 .ensures .0) (c .before .before .before .before .before .field4 .ensures .0) (c .before .before .before .before .before .before .before .before .before .before .before .before .before .if1 .left) (c .before .before .before .before .before .before .before .before .before .before .before .if2 .left) (c .before .before .before .before .before .before .before .before .before .if3 .left) (inside most-rows _ (c .before .before .before .before .before .before .before .if4 .left) (c .before .before .before .before .before .before .if5 .left)) (inside most-columns _ (c .before .before .before .before .if6 .left) (c .before .before .before .if7 .left)) (rw (c .before .before .width .ensures) at (c .before .if8 .left)) (c .if9 .left)
 
 pub header-spec : {M : Type 1} → statement M
 header-spec =
@@ -74,7 +74,7 @@ header-spec =
     field-requires-4
     returns-6
     returns-7
-    width-of-requires
+    width-requires
     mul-if8
     add-if8
     returns-8

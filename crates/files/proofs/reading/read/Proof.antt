@@ -41,9 +41,7 @@ part-unpack-end : tie.Need-part-unpack-end
 part-unpack-end c = search needs
 
 unpack-requires : tie.Need-unpack-requires
-unpack-requires c κs =
-    let w = checked-whole _ _ (rw (c .before .before .before .before .rows .given .1) at (c .before .before .before .before .before .before .check .ensures)) in
-    (omega (arith, w .few-rows), omega (arith, w .few-columns), c .before .before .if1 .left)
+unpack-requires c κs = c .before .before .if1 .left
 
 returns-2 : tie.Need-returns-2
 returns-2 c = ends-refused _ _ _ _ _ (read-refused _ _ _ (rw (c .before .why .given .1) at (c .before .before .before .check .ensures)))

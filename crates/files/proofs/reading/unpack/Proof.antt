@@ -3,7 +3,7 @@ use borrow.Author.Needs.{needs}
 use native.Mathlib.Omega.{arith}
 use mathlib.Core.Path.{_≡_, refl}
 use Prim.Native.Nat.{_-_, _*_, _≤_}
-use native.Mathlib.Nat.{mul-le-mul}
+use native.Mathlib.Nat.{le-refl, mul-le-mul}
 use Rattle.laws.specs.Places.{row-end}
 use Rattle.laws.specs.Lay.{Laid, blocks, upto, blocks-none, laid-block, blocks-done, length-upto}
 use Rattle.files.specs.Fields.{bitOf, width}
@@ -16,20 +16,28 @@ Inv-loop bytes m n entries₀ w v₀ entries v = (v ≤ m) × (w ≡ width n) ×
 abbrev μ-loop : tie.MeasureT-loop
 μ-loop bytes m n entries₀ w v₀ entries v = m - v
 
-width-of-requires : tie.Need-width-of-requires Inv-loop μ-loop
-width-of-requires c κs = search needs
+width-requires : tie.Need-width-requires Inv-loop μ-loop
+width-requires c κs = search needs
 
 loop-holds : tie.Need-loop-holds Inv-loop μ-loop
 loop-holds c = (search needs, search needs, blocks-none _ _ _)
 
 mul-unpack-row : tie.Need-mul-unpack-row Inv-loop μ-loop
-mul-unpack-row c = record { fits = omega (arith, mul-le-mul {n₁ = c .before .loop .v} {m₁ = c .before .before .width-of .result} {n₂ = 65535} {m₂ = 8192} (search needs) (search needs)) }
+mul-unpack-row c =
+    let s = c .before .before .before .before .before in
+    record {
+      fits = omega (
+        arith,
+        mul-le-mul {n₁ = c .before .loop .v} {m₁ = c .before .before .width .result} {m₂ = s .args .n} (le-refl _) (search needs),
+        row-end (s .args .n) (s .args .n) (c .loop-test .taken) refl (s .pre),
+      );
+    }
 
 mul-unpack-row-2 : tie.Need-mul-unpack-row-2 Inv-loop μ-loop
-mul-unpack-row-2 c = record { fits = omega (arith, row-end (c .before .before .before .before .before .before .args .n) (c .before .before .before .before .before .before .args .n) (c .before .loop-test .taken) refl (c .before .before .before .before .before .before .pre .2)) }
+mul-unpack-row-2 c = record { fits = omega (arith, row-end (c .before .before .before .before .before .before .args .n) (c .before .before .before .before .before .before .args .n) (c .before .loop-test .taken) refl (c .before .before .before .before .before .before .pre)) }
 
 unpack-row-requires : tie.Need-unpack-row-requires Inv-loop μ-loop
-unpack-row-requires c κs = omega (arith, row-end (c .before .before .before .before .before .before .args .n) (c .before .before .before .before .before .before .args .n) (c .before .loop-test .taken) refl (c .before .before .before .before .before .before .pre .2))
+unpack-row-requires c κs = omega (arith, row-end (c .before .before .before .before .before .before .args .n) (c .before .before .before .before .before .before .args .n) (c .before .loop-test .taken) refl (c .before .before .before .before .before .before .pre))
 
 add-v : tie.Need-add-v Inv-loop μ-loop
 add-v c = search needs
@@ -42,7 +50,7 @@ loop-again c = (
   search needs,
   search needs,
   laid-block _ _ _ _ _ _ _ _ (λ v. length-upto _ _) (omega arith)
-      (omega (arith, row-end (c .before .before .before .before .before .before .before .before .before .args .n) (c .before .before .before .before .before .before .before .before .before .args .n) (c .before .before .before .before .loop-test .taken) refl (c .before .before .before .before .before .before .before .before .before .pre .2)))
+      (omega (arith, row-end (c .before .before .before .before .before .before .before .before .before .args .n) (c .before .before .before .before .before .before .before .before .before .args .n) (c .before .before .before .before .loop-test .taken) refl (c .before .before .before .before .before .before .before .before .before .pre)))
       (rw (c .before .before .before .before .before .loop .inv .1) at (c .before .before .unpack-row .ensures)) (c .before .before .before .before .before .loop .inv .2),
 )
 
@@ -58,7 +66,7 @@ unpack-spec =
     (tie.spec
     Inv-loop
     μ-loop
-    width-of-requires
+    width-requires
     loop-holds
     mul-unpack-row
     mul-unpack-row-2

@@ -32,19 +32,19 @@ sum-of-requires c κs = search needs
 returns-5 : tie.Need-returns-5
 returns-5 c = ends-refused _ _ _ _ _ (build-zero _ _ _ _ (inside most-rows _ (c .before .before .before .before .before .if1 .left) (c .before .before .before .before .if2 .left)) (inside most-columns _ (c .before .before .before .if3 .left) (c .before .before .if4 .left)) (sym (c .before .sum-of .ensures .0) ∙ c .if5 .taken))
 
-width-of-requires : tie.Need-width-of-requires
-width-of-requires c κs = search needs
+width-requires : tie.Need-width-requires
+width-requires c κs = search needs
 
 mul-length : tie.Need-mul-length
-mul-length c = record { fits = omega (arith, mul-le-mul {n₁ = length (c .before .before .before .before .before .before .before .before .before .args .weights .now)} {m₁ = c .width-of .result} {n₂ = 128} {m₂ = 16} (search needs) (search needs)) }
+mul-length c = record { fits = omega (arith, mul-le-mul {n₁ = length (c .before .before .before .before .before .before .before .before .before .args .weights .now)} {m₁ = c .width .result} {n₂ = 128} {m₂ = 16} (search needs) (search needs)) }
 
 add-length : tie.Need-add-length
-add-length c = record { fits = omega (arith, mul-le-mul {n₁ = length (c .before .before .before .before .before .before .before .before .before .args .weights .now)} {m₁ = c .width-of .result} {n₂ = 128} {m₂ = 16} (search needs) (search needs)) }
+add-length c = record { fits = omega (arith, mul-le-mul {n₁ = length (c .before .before .before .before .before .before .before .before .before .args .weights .now)} {m₁ = c .width .result} {n₂ = 128} {m₂ = 16} (search needs) (search needs)) }
 
 returns-6 : tie.Need-returns-6
 returns-6 c = ends-refused _ _ _ _ _
     (build-full _ _ _ _ (inside most-rows _ (c .before .before .before .before .before .before .before .if1 .left) (c .before .before .before .before .before .before .if2 .left)) (inside most-columns _ (c .before .before .before .before .before .if3 .left) (c .before .before .before .before .if4 .left)) (λ z. c .before .before .if5 .left (c .before .before .before .sum-of .ensures .0 ∙ z))
-    (rw (c .before .width-of .ensures) at (c .if6 .taken)))
+    (rw (c .before .width .ensures) at (c .if6 .taken)))
 
 put-header-requires : tie.Need-put-header-requires
 put-header-requires c κs = search needs
@@ -53,9 +53,7 @@ divide-rows-requires : tie.Need-divide-rows-requires
 divide-rows-requires c κs = (
   c .before .before .before .before .before .before .before .before .sum-of .ensures .0,
   c .before .before .before .before .before .before .before .before .sum-of .ensures .1,
-  search needs,
-  search needs,
-  omega (arith, rw (c .before .before .before .before .before .before .width-of .ensures) at (c .before .before .before .before .before .if6 .left), c .before .before .before .put-header .kept .0),
+  omega (arith, rw (c .before .before .before .before .before .before .width .ensures) at (c .before .before .before .before .before .if6 .left), c .before .before .before .put-header .kept .0),
 )
 
 same-length : tie.Need-same-length
@@ -67,8 +65,8 @@ returns-7 c =
     let z : 0 < sum (c .before .before .before .before .before .before .before .before .before .before .before .before .before .before .before .before .before .before .args .usage) (c .before .before .before .before .before .before .before .before .before .before .before .before .before .before .before .before .before .before .args .weights .now) = omega (arith, c .before .before .before .before .before .before .before .before .before .before .before .sum-of .ensures .0, c .before .before .before .before .before .before .before .before .before .before .if5 .left) in
     ends-given _ _ _ _ _ _ _
     (build-gives _ _ _ _ (inside most-rows _ (c .before .before .before .before .before .before .before .before .before .before .before .before .before .before .before .if1 .left) (c .before .before .before .before .before .before .before .before .before .before .before .before .before .before .if2 .left)) (inside most-columns _ (c .before .before .before .before .before .before .before .before .before .before .before .before .before .if3 .left) (c .before .before .before .before .before .before .before .before .before .before .before .before .if4 .left)) (λ z. c .before .before .before .before .before .before .before .before .before .before .if5 .left (c .before .before .before .before .before .before .before .before .before .before .before .sum-of .ensures .0 ∙ z))
-    (rw (c .before .before .before .before .before .before .before .before .before .width-of .ensures) at (c .before .before .before .before .before .before .before .before .if6 .left)))
-    (ap (λ (w : ℕ). 8 + length (c .before .before .before .before .before .before .before .before .before .before .before .before .before .before .before .before .before .before .args .weights .now) * w) (c .before .before .before .before .before .before .before .before .before .width-of .ensures) ∙ sym (length-file _))
+    (rw (c .before .before .before .before .before .before .before .before .before .width .ensures) at (c .before .before .before .before .before .before .before .before .if6 .left)))
+    (ap (λ (w : ℕ). 8 + length (c .before .before .before .before .before .before .before .before .before .before .before .before .before .before .before .before .before .before .args .weights .now) * w) (c .before .before .before .before .before .before .before .before .before .width .ensures) ∙ sym (length-file _))
     (file-laid (built (c .before .before .before .before .before .before .before .before .before .before .before .before .before .before .before .before .before .before .args .usage) (c .before .before .before .before .before .before .before .before .before .before .before .before .before .before .before .before .before .before .args .weights .now) (c .before .before .before .before .before .before .before .before .before .before .before .before .before .before .before .before .before .before .args .columns)) _ (c .before .before .before .before .before .before .before .before .before .before .before .before .before .before .before .before .before .before .args .file .now) _ _ (omega (arith, c .before .before .before .before .before .before .before .before .if6 .left)) (built-quotient _ _ _ z) (c .before .before .before .before .before .before .put-header .ensures)
     (rw (c .before .before .before .before .before .before .before .before .before .before .before .sum-of .ensures .0) at (c .before .before .divide-rows .ensures)))
 
@@ -82,7 +80,7 @@ build-spec =
     returns-4
     sum-of-requires
     returns-5
-    width-of-requires
+    width-requires
     mul-length
     add-length
     returns-6

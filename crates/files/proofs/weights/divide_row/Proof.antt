@@ -17,8 +17,8 @@ Inv-loop w s n file₀ at rest₀ bytes q₀ file rest q =
 abbrev μ-loop : tie.MeasureT-loop
 μ-loop w s n file₀ at rest₀ bytes q₀ file rest q = bytes - q
 
-width-of-requires : tie.Need-width-of-requires Inv-loop μ-loop
-width-of-requires c κs = search needs
+width-requires : tie.Need-width-requires Inv-loop μ-loop
+width-requires c κs = search needs
 
 loop-holds : tie.Need-loop-holds Inv-loop μ-loop
 loop-holds c = (search needs, search needs, rest-none _ _, search needs, upto-none _ _ _)
@@ -66,7 +66,7 @@ divide-row-spec =
     (tie.spec
     Inv-loop
     μ-loop
-    width-of-requires
+    width-requires
     loop-holds
     mul-divide-byte
     sub-divide-byte

@@ -19,8 +19,8 @@ Inv-loop usage weights s n file₀ bytes v₀ v-end file v =
 abbrev μ-loop : tie.MeasureT-loop
 μ-loop usage weights s n file₀ bytes v₀ v-end file v = length weights - v
 
-width-of-requires : tie.Need-width-of-requires Inv-loop μ-loop
-width-of-requires c κs = search needs
+width-requires : tie.Need-width-requires Inv-loop μ-loop
+width-requires c κs = search needs
 
 loop-holds : tie.Need-loop-holds Inv-loop μ-loop
 loop-holds c = (search needs, search needs, blocks-none _ _ _)
@@ -35,17 +35,16 @@ counted-weight-requires : tie.Need-counted-weight-requires Inv-loop μ-loop
 counted-weight-requires c κs = search needs
 
 mul-divide-row : tie.Need-mul-divide-row Inv-loop μ-loop
-mul-divide-row c = record { fits = omega (arith, row-end {size = length (c .before .before .before .before .before .before .before .before .args .file .now) - 8} (c .before .before .before .before .before .width-of .result) (width (c .before .before .before .before .before .before .before .before .args .n)) (c .before .before .before .loop-test .taken) (c .before .before .before .before .loop .inv .1) (omega arith)) }
+mul-divide-row c = record { fits = omega (arith, row-end {size = length (c .before .before .before .before .before .before .before .before .args .file .now) - 8} (c .before .before .before .before .before .width .result) (width (c .before .before .before .before .before .before .before .before .args .n)) (c .before .before .before .loop-test .taken) (c .before .before .before .before .loop .inv .1) (omega arith)) }
 
 add-divide-row : tie.Need-add-divide-row Inv-loop μ-loop
-add-divide-row c = record { fits = omega (arith, row-end {size = length (c .before .before .before .before .before .before .before .before .args .file .now) - 8} (c .before .before .before .before .before .width-of .result) (width (c .before .before .before .before .before .before .before .before .args .n)) (c .before .before .before .loop-test .taken) (c .before .before .before .before .loop .inv .1) (omega arith)) }
+add-divide-row c = record { fits = omega (arith, row-end {size = length (c .before .before .before .before .before .before .before .before .args .file .now) - 8} (c .before .before .before .before .before .width .result) (width (c .before .before .before .before .before .before .before .before .args .n)) (c .before .before .before .loop-test .taken) (c .before .before .before .before .loop .inv .1) (omega arith)) }
 
 divide-row-requires : tie.Need-divide-row-requires Inv-loop μ-loop
 divide-row-requires c κs = (
   rw (c .before .counted-weight .ensures, c .before .before .before .before .before .before .before .before .pre .0) (counted-le _ _ 0 _ (c .before .before .before .loop-test .taken)),
   search needs,
-  search needs,
-  omega (arith, row-end {size = length (c .before .before .before .before .before .before .before .before .args .file .now) - 8} (c .before .before .before .before .before .width-of .result) (width (c .before .before .before .before .before .before .before .before .args .n)) (c .before .before .before .loop-test .taken) (c .before .before .before .before .loop .inv .1) (omega arith), c .before .before .before .before .loop .inv .2 .long),
+  omega (arith, row-end {size = length (c .before .before .before .before .before .before .before .before .args .file .now) - 8} (c .before .before .before .before .before .width .result) (width (c .before .before .before .before .before .before .before .before .args .n)) (c .before .before .before .loop-test .taken) (c .before .before .before .before .loop .inv .1) (omega arith), c .before .before .before .before .loop .inv .2 .long),
 )
 
 add-v : tie.Need-add-v Inv-loop μ-loop
@@ -59,7 +58,7 @@ loop-again c = (
   search needs,
   search needs,
   laid-block _ _ _ _ _ _ _ _ (λ v. length-packed _ _) (ap (λ (w : ℕ). 8 + c .before .before .before .before .before .before .before .loop .v * w) (c .before .before .before .before .before .before .before .loop .inv .1))
-      (omega (arith, row-end {size = length (c .before .before .before .before .before .before .before .before .before .before .before .args .file .now) - 8} (c .before .before .before .before .before .before .before .before .width-of .result) (width (c .before .before .before .before .before .before .before .before .before .before .before .args .n)) (c .before .before .before .before .before .before .loop-test .taken) (c .before .before .before .before .before .before .before .loop .inv .1) (omega arith))) (rw (c .before .before .before .before .counted-weight .ensures) at (c .before .before .divide-row .ensures)) (c .before .before .before .before .before .before .before .loop .inv .2),
+      (omega (arith, row-end {size = length (c .before .before .before .before .before .before .before .before .before .before .before .args .file .now) - 8} (c .before .before .before .before .before .before .before .before .width .result) (width (c .before .before .before .before .before .before .before .before .before .before .before .args .n)) (c .before .before .before .before .before .before .loop-test .taken) (c .before .before .before .before .before .before .before .loop .inv .1) (omega arith))) (rw (c .before .before .before .before .counted-weight .ensures) at (c .before .before .divide-row .ensures)) (c .before .before .before .before .before .before .before .loop .inv .2),
 )
 
 same-length : tie.Need-same-length Inv-loop μ-loop
@@ -74,7 +73,7 @@ divide-rows-spec =
     (tie.spec
     Inv-loop
     μ-loop
-    width-of-requires
+    width-requires
     loop-holds
     mul-counted-weight
     shared-slice-read-counted-weight

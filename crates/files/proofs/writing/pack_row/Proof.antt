@@ -16,8 +16,8 @@ Inv-loop entries from n file₀ at w q₀ file q =
 abbrev μ-loop : tie.MeasureT-loop
 μ-loop entries from n file₀ at w q₀ file q = w - q
 
-width-of-requires : tie.Need-width-of-requires Inv-loop μ-loop
-width-of-requires c κs = search needs
+width-requires : tie.Need-width-requires Inv-loop μ-loop
+width-requires c κs = search needs
 
 loop-holds : tie.Need-loop-holds Inv-loop μ-loop
 loop-holds c = (search needs, search needs, upto-none _ _ _)
@@ -53,7 +53,7 @@ pack-row-spec =
     (tie.spec
     Inv-loop
     μ-loop
-    width-of-requires
+    width-requires
     loop-holds
     pack-byte-requires
     add-file

@@ -18,8 +18,8 @@ Inv-loop entries m n file₀ w v₀ file v =
 abbrev μ-loop : tie.MeasureT-loop
 μ-loop entries m n file₀ w v₀ file v = m - v
 
-width-of-requires : tie.Need-width-of-requires Inv-loop μ-loop
-width-of-requires c κs = search needs
+width-requires : tie.Need-width-requires Inv-loop μ-loop
+width-requires c κs = search needs
 
 loop-holds : tie.Need-loop-holds Inv-loop μ-loop
 loop-holds c = (search needs, search needs, blocks-none _ _ _)
@@ -28,16 +28,16 @@ mul-pack-row : tie.Need-mul-pack-row Inv-loop μ-loop
 mul-pack-row c = record { fits = omega (arith, row-end (c .before .before .before .before .before .args .n) (c .before .before .before .before .before .args .n) (c .loop-test .taken) refl (c .before .before .before .before .before .pre .2)) }
 
 mul-pack-row-2 : tie.Need-mul-pack-row-2 Inv-loop μ-loop
-mul-pack-row-2 c = record { fits = omega (arith, row-end {size = length (c .before .before .before .before .before .before .args .file .now) - 8} (c .before .before .before .width-of .result) (width (c .before .before .before .before .before .before .args .n)) (c .before .loop-test .taken) (c .before .before .loop .inv .1) (omega arith)) }
+mul-pack-row-2 c = record { fits = omega (arith, row-end {size = length (c .before .before .before .before .before .before .args .file .now) - 8} (c .before .before .before .width .result) (width (c .before .before .before .before .before .before .args .n)) (c .before .loop-test .taken) (c .before .before .loop .inv .1) (omega arith)) }
 
 add-pack-row : tie.Need-add-pack-row Inv-loop μ-loop
-add-pack-row c = record { fits = omega (arith, row-end {size = length (c .before .before .before .before .before .before .args .file .now) - 8} (c .before .before .before .width-of .result) (width (c .before .before .before .before .before .before .args .n)) (c .before .loop-test .taken) (c .before .before .loop .inv .1) (omega arith)) }
+add-pack-row c = record { fits = omega (arith, row-end {size = length (c .before .before .before .before .before .before .args .file .now) - 8} (c .before .before .before .width .result) (width (c .before .before .before .before .before .before .args .n)) (c .before .loop-test .taken) (c .before .before .loop .inv .1) (omega arith)) }
 
 pack-row-requires : tie.Need-pack-row-requires Inv-loop μ-loop
 pack-row-requires c κs = (
   omega (arith, row-end (c .before .before .before .before .before .before .args .n) (c .before .before .before .before .before .before .args .n) (c .before .loop-test .taken) refl (c .before .before .before .before .before .before .pre .2)),
   search needs,
-  omega (arith, row-end {size = length (c .before .before .before .before .before .before .args .file .now) - 8} (c .before .before .before .width-of .result) (width (c .before .before .before .before .before .before .args .n)) (c .before .loop-test .taken) (c .before .before .loop .inv .1) (omega arith), c .before .before .loop .inv .2 .long),
+  omega (arith, row-end {size = length (c .before .before .before .before .before .before .args .file .now) - 8} (c .before .before .before .width .result) (width (c .before .before .before .before .before .before .args .n)) (c .before .loop-test .taken) (c .before .before .loop .inv .1) (omega arith), c .before .before .loop .inv .2 .long),
   λ i h. c .before .before .before .before .before .before .pre .4 _ (cell _ _ _ i (c .before .loop-test .taken) h),
 )
 
@@ -52,7 +52,7 @@ loop-again c = (
   search needs,
   search needs,
   laid-block _ _ _ _ _ _ _ _ (λ v. length-packed _ _) (ap (λ (w : ℕ). 8 + c .before .before .before .before .before .loop .v * w) (c .before .before .before .before .before .loop .inv .1))
-      (omega (arith, row-end {size = length (c .before .before .before .before .before .before .before .before .before .args .file .now) - 8} (c .before .before .before .before .before .before .width-of .result) (width (c .before .before .before .before .before .before .before .before .before .args .n)) (c .before .before .before .before .loop-test .taken) (c .before .before .before .before .before .loop .inv .1) (omega arith))) (c .before .before .pack-row .ensures) (c .before .before .before .before .before .loop .inv .2),
+      (omega (arith, row-end {size = length (c .before .before .before .before .before .before .before .before .before .args .file .now) - 8} (c .before .before .before .before .before .before .width .result) (width (c .before .before .before .before .before .before .before .before .before .args .n)) (c .before .before .before .before .loop-test .taken) (c .before .before .before .before .before .loop .inv .1) (omega arith))) (c .before .before .pack-row .ensures) (c .before .before .before .before .before .loop .inv .2),
 )
 
 same-length : tie.Need-same-length Inv-loop μ-loop
@@ -67,7 +67,7 @@ pack-rows-spec =
     (tie.spec
     Inv-loop
     μ-loop
-    width-of-requires
+    width-requires
     loop-holds
     mul-pack-row
     mul-pack-row-2

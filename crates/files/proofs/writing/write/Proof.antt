@@ -53,20 +53,20 @@ returns-7 c = ends-refused _ _ _ _ _
     (write-sum _ _ _ _ (inside most-rows _ (c .before .before .before .before .before .before .before .before .if1 .left) (c .before .before .before .before .before .before .before .if2 .left)) (inside most-columns _ (c .before .before .before .before .before .before .if3 .left) (c .before .before .before .before .before .if4 .left)) (c .before .before .before .before .if5 .left) (sym (c .before .before .before .any-above-one .ensures) ∙ c .before .before .if6 .left)
     (entries-sum _ _ _ _ (no-entry-above _ (c .before .before .before .before .before .before .before .before .before .before .before .args .entries .now) (sym (c .before .before .before .any-above-one .ensures) ∙ c .before .before .if6 .left)) (c .before .fits2 .ensures) ∙ c .if7 .taken))
 
-width-of-requires : tie.Need-width-of-requires
-width-of-requires c κs = search needs
+width-requires : tie.Need-width-requires
+width-requires c κs = search needs
 
 mul-length : tie.Need-mul-length
-mul-length c = record { fits = omega (arith, mul-le-mul {n₁ = c .before .before .before .before .before .before .before .before .before .before .before .before .args .rows} {m₁ = c .width-of .result} {n₂ = 128} {m₂ = 16} (search needs) (search needs)) }
+mul-length c = record { fits = omega (arith, mul-le-mul {n₁ = c .before .before .before .before .before .before .before .before .before .before .before .before .args .rows} {m₁ = c .width .result} {n₂ = 128} {m₂ = 16} (search needs) (search needs)) }
 
 add-length : tie.Need-add-length
-add-length c = record { fits = omega (arith, mul-le-mul {n₁ = c .before .before .before .before .before .before .before .before .before .before .before .before .args .rows} {m₁ = c .width-of .result} {n₂ = 128} {m₂ = 16} (search needs) (search needs)) }
+add-length c = record { fits = omega (arith, mul-le-mul {n₁ = c .before .before .before .before .before .before .before .before .before .before .before .before .args .rows} {m₁ = c .width .result} {n₂ = 128} {m₂ = 16} (search needs) (search needs)) }
 
 returns-8 : tie.Need-returns-8
 returns-8 c = ends-refused _ _ _ _ _
     (write-full _ _ _ _ (inside most-rows _ (c .before .before .before .before .before .before .before .before .before .before .if1 .left) (c .before .before .before .before .before .before .before .before .before .if2 .left)) (inside most-columns _ (c .before .before .before .before .before .before .before .before .if3 .left) (c .before .before .before .before .before .before .before .if4 .left)) (c .before .before .before .before .before .before .if5 .left) (sym (c .before .before .before .before .before .any-above-one .ensures) ∙ c .before .before .before .before .if6 .left)
     (entries-sum _ _ _ _ (no-entry-above _ (c .before .before .before .before .before .before .before .before .before .before .before .before .before .args .entries .now) (sym (c .before .before .before .before .before .any-above-one .ensures) ∙ c .before .before .before .before .if6 .left)) (c .before .before .before .fits2 .ensures) ∙ c .before .before .if7 .left)
-    (rw (c .before .width-of .ensures) at (c .if8 .taken)))
+    (rw (c .before .width .ensures) at (c .if8 .taken)))
 
 put-header-requires : tie.Need-put-header-requires
 put-header-requires c κs = search needs
@@ -76,7 +76,7 @@ pack-rows-requires c κs = (
   search needs,
   search needs,
   c .before .before .before .before .before .before .before .before .before .before .before .if5 .left,
-  omega (arith, rw (c .before .before .before .before .before .before .width-of .ensures) at (c .before .before .before .before .before .if8 .left), c .before .before .before .put-header .kept .0),
+  omega (arith, rw (c .before .before .before .before .before .before .width .ensures) at (c .before .before .before .before .before .if8 .left), c .before .before .before .put-header .kept .0),
   no-entry-above _ (c .before .before .before .before .before .before .before .before .before .before .before .before .before .before .before .before .before .before .args .entries .now) (sym (c .before .before .before .before .before .before .before .before .before .before .any-above-one .ensures) ∙ c .before .before .before .before .before .before .before .before .before .if6 .left),
 )
 
@@ -88,8 +88,8 @@ returns-9 c =
     ends-given _ _ _ _ _ _ _
     (write-gives _ _ _ _ (inside most-rows _ (c .before .before .before .before .before .before .before .before .before .before .before .before .before .before .before .before .before .before .if1 .left) (c .before .before .before .before .before .before .before .before .before .before .before .before .before .before .before .before .before .if2 .left)) (inside most-columns _ (c .before .before .before .before .before .before .before .before .before .before .before .before .before .before .before .before .if3 .left) (c .before .before .before .before .before .before .before .before .before .before .before .before .before .before .before .if4 .left)) (c .before .before .before .before .before .before .before .before .before .before .before .before .before .before .if5 .left) (sym (c .before .before .before .before .before .before .before .before .before .before .before .before .before .any-above-one .ensures) ∙ c .before .before .before .before .before .before .before .before .before .before .before .before .if6 .left)
     (entries-sum _ _ _ _ (no-entry-above _ (c .before .before .before .before .before .before .before .before .before .before .before .before .before .before .before .before .before .before .before .before .before .args .entries .now) (sym (c .before .before .before .before .before .before .before .before .before .before .before .before .before .any-above-one .ensures) ∙ c .before .before .before .before .before .before .before .before .before .before .before .before .if6 .left)) (c .before .before .before .before .before .before .before .before .before .before .before .fits2 .ensures) ∙ c .before .before .before .before .before .before .before .before .before .before .if7 .left)
-    (rw (c .before .before .before .before .before .before .before .before .before .width-of .ensures) at (c .before .before .before .before .before .before .before .before .if8 .left)))
-    (ap (λ (w : ℕ). 8 + c .before .before .before .before .before .before .before .before .before .before .before .before .before .before .before .before .before .before .before .before .before .args .rows * w) (c .before .before .before .before .before .before .before .before .before .width-of .ensures) ∙ sym (length-file _))
+    (rw (c .before .before .before .before .before .before .before .before .before .width .ensures) at (c .before .before .before .before .before .before .before .before .if8 .left)))
+    (ap (λ (w : ℕ). 8 + c .before .before .before .before .before .before .before .before .before .before .before .before .before .before .before .before .before .before .before .before .before .args .rows * w) (c .before .before .before .before .before .before .before .before .before .width .ensures) ∙ sym (length-file _))
     (file-laid (taken _ _ _) _ _ _ _ (omega (arith, c .before .before .before .before .before .before .before .before .if8 .left)) (λ v i h l. sym (taken-bit _ _ _ v i h l)) (c .before .before .before .before .before .before .put-header .ensures) (c .before .before .pack-rows .ensures))
 
 pub write-spec : {M : Type 1} → statement M
@@ -107,7 +107,7 @@ write-spec =
     returns-6
     fits-requires
     returns-7
-    width-of-requires
+    width-requires
     mul-length
     add-length
     returns-8

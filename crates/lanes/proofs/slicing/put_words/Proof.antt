@@ -15,8 +15,8 @@ Inv-loop strings n words₀ w i₀ words i = (i ≤ n) × (w ≡ width n) × Lai
 abbrev μ-loop : tie.MeasureT-loop
 μ-loop strings n words₀ w i₀ words i = n - i
 
-add-w : tie.Need-add-w Inv-loop μ-loop
-add-w c = search needs
+width-requires : tie.Need-width-requires Inv-loop μ-loop
+width-requires c κs = search needs
 
 loop-holds : tie.Need-loop-holds Inv-loop μ-loop
 loop-holds c = (search needs, search needs, upto-none _ _ _)
@@ -55,7 +55,7 @@ put-words-spec =
     (tie.spec
     Inv-loop
     μ-loop
-    add-w
+    width-requires
     loop-holds
     word-requires
     mul-words
