@@ -4,11 +4,11 @@ pub mod Fields
 pub mod Matrix
 pub mod Files
 pub mod Strings
+pub mod Weights
 pub mod Matrices
 pub mod Live
 pub mod Checks
 pub mod Writing
-pub mod Weights
 pub mod Division
 pub mod Building
 pub mod RoundTrip

@@ -1,8 +1,9 @@
-// Matrix files: refusals, record fields and packed bits, checking, reading and writing a matrix file, and building one from weights (01, "Matrix and
-// walk", "Files", "The engine's no").
+// Matrix files: checking, reading and writing them, building one from weights, and strings of bits packed as a row is (01, "Matrix and
+// walk", "Files", "The engine's no"); with what these are made of: refusals, fields, bits, and the bytes that n bits take.
 //
-// Every operation takes any content and any length, and answers a result or one refusal. Its contract cites one definition of specs/Files.antt or
-// specs/Weights.antt, which gives the outcome; a lent buffer ends as it began, with what the outcome lays at its front.
+// Every operation takes any content and any length, and answers a result or one refusal. Its contract cites one definition, of
+// specs/Files.antt, specs/Weights.antt or specs/Strings.antt, which gives the outcome; a lent buffer ends as it began, with what the
+// outcome lays at its front.
 mod fields;
 mod live;
 mod packing;
