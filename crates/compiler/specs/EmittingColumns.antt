@@ -7,8 +7,7 @@ use native.Mathlib.Numerals.{add-one}
 use native.Mathlib.Omega.{arith}
 use lib.Count as Count
 use lib.ListN.{length, length-append}
-use lib.Pow.{shr-shr}
-use Rattle.laws.specs.Sums.{sumTo, sum-eq, sum-more, sum-front}
+use Rattle.laws.specs.Sums.{sumTo, sum-more}
 use Rattle.laws.specs.Lay.{blocks, blocks-more}
 use Rattle.files.specs.Fields.{bitOf}
 use Rattle.files.specs.Matrix.{most-rows, most-columns}
@@ -16,7 +15,7 @@ use Rattle.files.specs.Live.{weight}
 use Rattle.programs.specs.declared.description.Instruction.{Instruction}
 use Rattle.compiler.specs.Translation.{rowBits, split, mark, met, marks, keep, column, liveBefore}
 use Rattle.compiler.specs.Width.{row-lt}
-use Rattle.compiler.specs.Size.{ones, mark-length, split-length, keep-length}
+use Rattle.compiler.specs.Size.{ones, mark-length, split-length, keep-length, ones-low}
 use Rattle.compiler.specs.Emitting.{size, size-append, Fit, Emitted, emitted-none, emitted-after}
 use Rattle.compiler.specs.Emitting.{Ahead, ahead-all, ahead-room, ahead-more, ahead-none}
 
@@ -67,16 +66,7 @@ ones-are zero v h =
     rw e
 ones-are (suc k) v h =
     let l : v / 2 < 2 ^ k = omega (arith, rw (pow-succ' 2 k) at h) in
-    omega (
-      arith,
-      sum-front k (λ t. v / 2 ^ t % 2),
-      sum-eq k (λ t. v / 2 ^ suc t % 2) (λ t. v / 2 / 2 ^ t % 2) (λ t b. halved t),
-      ones-are k (v / 2) l,
-      Count.ones-step v,
-    )
-  where
-    halved : (t : ℕ) → v / 2 ^ suc t % 2 ≡ v / 2 / 2 ^ t % 2
-    halved t = ap (λ (x : ℕ). x % 2) (sym (shr-shr v 1 t ∙ ap (λ (i : ℕ). v / 2 ^ i) (omega arith)))
+    omega (arith, ones-low k v, ones-are k (v / 2) l, Count.ones-step v)
 
 bit-times : (b x : ℕ) → b < 2 → b * x ≤ x
 bit-times zero x h = omega arith

@@ -203,7 +203,8 @@ read-then-write file entries room M bytes e h =
         ap gives (ap matrixFile back ∙ read-write file bytes M g)
 
 -- A written file is that of the matrix of the entries.
-pub written-is : (m n : ℕ) (entries file : List ℕ) (room : ℕ) → writeOf m n entries room ≡ gives file → matrixOf file ≡ gives (taken m n entries)
+pub written-is : (m n : ℕ) (entries file : List ℕ) (room : ℕ) → writeOf m n entries room ≡ gives file →
+    matrixOf file ≡ gives (taken m n entries)
 unfolding writeOf
 written-is m n entries file room e =
     let c1 = passed 3 (outside most-rows m) _ file e in
@@ -247,8 +248,8 @@ built-is usage weights n room file e =
     rw (← gives-inj (c4 .1)) (write-read (built usage weights n) (built-accepted usage weights n (r .0) (r .1) (c .0) (c .1) z))
 
 -- It reads as that matrix, into any buffer with room for its entries.
-pub build-then-read : (usage : Usage) (weights : List ℕ) (n room : ℕ) (file : List ℕ) (space : ℕ) → buildOf usage weights n room ≡ gives file →
-    length weights * n ≤ space → readOf file space ≡ gives (built usage weights n)
+pub build-then-read : (usage : Usage) (weights : List ℕ) (n room : ℕ) (file : List ℕ) (space : ℕ) →
+    buildOf usage weights n room ≡ gives file → length weights * n ≤ space → readOf file space ≡ gives (built usage weights n)
 unfolding built
 build-then-read usage weights n room file space e h =
     read-room file space (built usage weights n) (built-is usage weights n room file e) h

@@ -7,7 +7,7 @@ use native.Mathlib.Nat.{add-zero, zero-add, mul-one, eq-or-lt-of-le, le-of-suc-l
 use native.Mathlib.Numerals.{add-one}
 use native.Mathlib.Omega.{arith}
 use lib.ListN.{length, getD, set, take, drop, length-append, length-take, length-drop, List·getD-append}
-use lib.Seq.{ext-getD, getD-take, length-take-le, take-all, take-at, drop-append-add, drop-append-seam, drop-drop, set-split, getD-append-add}
+use lib.Seq.{ext-getD, getD-take, length-take-le, take-all, take-at, drop-at, drop-append-add, drop-append-seam, drop-drop, set-split, getD-append-add}
 
 module _ {A : Type 0} where
   -- f 0, then f 1, .., then f (n - 1), one after another
@@ -119,6 +119,19 @@ module _ {A : Type 0} where
   pub layAt-nothing : (k : ℕ) (buf : List A) → buf ≡ layAt k [] buf
   unfolding layAt
   layAt-nothing k buf = rw (add-zero k) (sym (lib.ListN.take-append-drop k buf))
+
+  -- what is laid at a place stands there
+  pub drop-laid : (k : ℕ) (xs buf : List A) → k ≤ length buf → drop k (layAt k xs buf) ≡ xs ++ drop (k + length xs) buf
+  unfolding layAt
+  drop-laid k xs buf h = drop-at (take k buf) (xs ++ drop (k + length xs) buf) k (length-take-le k buf h)
+
+  -- what already stands at a place, laid there, changes nothing
+  pub laid-back : (k : ℕ) (xs rest buf : List A) → drop k buf ≡ xs ++ rest → layAt k xs buf ≡ buf
+  unfolding layAt
+  laid-back k xs rest buf e =
+      let behind : drop (k + length xs) buf ≡ rest =
+      sym (drop-drop (length xs) k buf) ∙ (ap (drop (length xs)) e ∙ drop-append-seam xs rest) in
+      rw (behind, ← e) (lib.ListN.take-append-drop k buf)
 
   -- the law by which results compose
   pub layAt-after : (k : ℕ) (xs ys buf : List A) → k + length xs ≤ length buf → layAt (k + length xs) ys (layAt k xs buf) ≡ layAt k (xs ++ ys) buf

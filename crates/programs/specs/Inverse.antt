@@ -8,9 +8,9 @@ use native.Mathlib.Numerals.{add-one}
 use native.Mathlib.Omega.{arith}
 use borrow.Author.Tests.{le-ltb, eq-eqb, ltb-false, eqb-true, not-false}
 use lib.Dec.{eqb, ltb}
-use lib.ListN.{length, getD, take, drop, length-append, length-drop, take-append-drop}
-use lib.Seq.{getD-drop, drop-cons, drop-drop, drop-append-seam, length-take-le, take-at, drop-at}
-use Rattle.laws.specs.Lay.{lay, layAt}
+use lib.ListN.{length, getD, take, drop, length-append, length-drop}
+use lib.Seq.{getD-drop, drop-cons, take-at}
+use Rattle.laws.specs.Lay.{lay, layAt, drop-laid, laid-back}
 use Rattle.laws.specs.Outcome.{Outcome, gives, laid, passed, bound, gives-inj, no-result}
 use Rattle.files.specs.Fields.{fieldOf, field-small}
 use Rattle.programs.specs.Limits.{within}
@@ -234,19 +234,6 @@ header-back file p byte e =
     count-high = omega (arith, small)
 
 -- ---- what the contracts of encode, decode, write_header and read_header cite
--- what is laid at a place stands there
-drop-laid : (k : ℕ) (xs buf : List ℕ) → k ≤ length buf → drop k (layAt k xs buf) ≡ xs ++ drop (k + length xs) buf
-unfolding layAt
-drop-laid k xs buf h = drop-at (take k buf) (xs ++ drop (k + length xs) buf) k (length-take-le k buf h)
-
--- what already stands at a place, laid there, changes nothing
-laid-back : (k : ℕ) (xs rest buf : List ℕ) → drop k buf ≡ xs ++ rest → layAt k xs buf ≡ buf
-unfolding layAt
-laid-back k xs rest buf e =
-    let behind : drop (k + length xs) buf ≡ rest =
-    sym (drop-drop (length xs) k buf) ∙ (ap (drop (length xs)) e ∙ drop-append-seam xs rest) in
-    rw (behind, ← e) (take-append-drop k buf)
-
 -- the front of a file
 front-is : (n : ℕ) (xs rest file : List ℕ) → length xs ≡ n → file ≡ xs ++ rest → xs ≡ take n file
 front-is n xs rest file l e = sym (ap (take n) e ∙ take-at xs rest n l)

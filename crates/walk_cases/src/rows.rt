@@ -36,7 +36,7 @@ fn print_number(top: usize, bytes: &[u8]) {
 // T, the sum of the rows, and a newline, for columns that fill their bytes.
 pub(crate) fn print_total(file: &[u8]) {
     let rows = files::field(file, 4);
-    let width = (files::field(file, 6) + 7) / 8;
+    let width = files::width(files::field(file, 6));
     let mut sum = [0u8; 16];
     let mut carry: usize = 0;
     let used = least(width, 16);
@@ -68,7 +68,7 @@ fn any_one(file: &[u8], at: usize, columns: usize) -> bool {
 // The highest row with a 1 in its first `columns` columns.
 pub(crate) fn highest(file: &[u8], columns: usize) -> usize {
     let rows = files::field(file, 4);
-    let width = (files::field(file, 6) + 7) / 8;
+    let width = files::width(files::field(file, 6));
     let mut found: usize = 0;
     let mut at: usize = 8;
     for v in 0..rows {

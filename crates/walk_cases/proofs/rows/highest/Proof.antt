@@ -16,8 +16,8 @@ field-requires c κs = search needs
 field-requires-2 : tie.Need-field-requires-2 Inv-loop μ-loop
 field-requires-2 c κs = search needs
 
-add-width : tie.Need-add-width Inv-loop μ-loop
-add-width c = search needs
+width-requires : tie.Need-width-requires Inv-loop μ-loop
+width-requires c κs = search needs
 
 loop-holds : tie.Need-loop-holds Inv-loop μ-loop
 loop-holds c = search needs
@@ -48,7 +48,7 @@ highest-spec =
     μ-loop
     field-requires
     field-requires-2
-    add-width
+    width-requires
     loop-holds
     any-one-requires
     add-at

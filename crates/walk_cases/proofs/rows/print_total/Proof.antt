@@ -19,8 +19,8 @@ field-requires c κs = search needs
 field-requires-2 : tie.Need-field-requires-2 Inv-loop μ-loop
 field-requires-2 c κs = search needs
 
-add-width : tie.Need-add-width Inv-loop μ-loop
-add-width c = search needs
+width-requires : tie.Need-width-requires Inv-loop μ-loop
+width-requires c κs = search needs
 
 least-requires : tie.Need-least-requires Inv-loop μ-loop
 least-requires c κs = search needs
@@ -72,7 +72,7 @@ print-total-spec =
     μ-loop
     field-requires
     field-requires-2
-    add-width
+    width-requires
     least-requires
     loop-holds
     sub-j
