@@ -57,9 +57,9 @@ module _ (file : List ℕ) (M : Matrix) (e : matrixOf file ≡ gives M) where
         (rw (start-is M a inputs registers outputs budget j jl small i r o enough) at (demand-2 budget j enough jl))
 
     -- and where registers and outputs that a stop left are put back at the front of other buffers: what the last call leaves
-    pub demand-2-moved : (b : ℕ) (bs : List ℕ) (first last : Ended ℕ) (j : ℕ) → b < 2 ^ 32 → program M .count ≤ together b (total bs) → j < lanes →
-        startOf (compiled M) inputs registers outputs b ≡ gives first → Chain words (compiled M) inputs first bs last →
+    pub demand-2-moved : (b : ℕ) (bs : List ℕ) (first last : Ended ℕ) (j : ℕ) → b < 2 ^ 32 → program M .count ≤ together b (total bs) →
+        j < lanes → startOf (compiled M) inputs registers outputs b ≡ gives first → Chain words (compiled M) inputs first bs last →
         sampleOf (last .state .outputs) j ≡ answerOf (drawn M (laneBits (M .columns) inputs j))
     demand-2-moved b bs first last j h enough jl q c =
-        gives-inj
-        (rw (start-chain words (compiled M) inputs registers outputs b bs first last h q c) at (demand-2 (together b (total bs)) j enough jl))
+        let whole = start-chain words (compiled M) inputs registers outputs b bs first last h q c in
+        gives-inj (rw whole at (demand-2 (together b (total bs)) j enough jl))

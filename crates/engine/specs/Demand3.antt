@@ -1,5 +1,5 @@
--- Demand 3: over all 2^n strings the compiled program gives sample v exactly p_v times and misses 2^n - T times; of two matrices with as many rows
--- and columns, equal counts exactly when equal matrices. Assumes nothing.
+-- Demand 3: over all 2^n strings the compiled program gives sample v exactly p_v times and misses 2^n - T times; of two matrices with as
+-- many rows and columns, equal counts exactly when equal matrices. Assumes nothing.
 use Prim.Native.Nat.{ℕ, _-_, _%_, _^_, _≤_, _<_}
 use mathlib.Core.Path.{_≡_, refl, sym, ap, _∙_}
 use mathlib.Core.List.{List}

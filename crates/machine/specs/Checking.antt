@@ -97,7 +97,8 @@ range-wider nr ni nq mr mi mq (And to x y) a b c r = (omega (arith, r .0), omega
 range-wider nr ni nq mr mi mq (Or to x y) a b c r = (omega (arith, r .0), omega (arith, r .1), omega (arith, r .2))
 range-wider nr ni nq mr mi mq (Output o x) a b c r = (omega (arith, r .0), omega (arith, r .1))
 
-pub range-limits : (p : Program) (i : Instruction) → within p ≡ true → inRange p i ≡ true → InRange most-registers most-inputs most-outputs i
+pub range-limits : (p : Program) (i : Instruction) → within p ≡ true → inRange p i ≡ true →
+    InRange most-registers most-inputs most-outputs i
 range-limits p i w e =
     let l = within-means p w in
     range-wider _ _ _ _ _ _ i (l .few-registers) (l .few-inputs) (l .few-outputs) (range-means p i e)
@@ -150,8 +151,8 @@ pub instruction-means : (p : Program) (written : ℕ → Bool) (bytes : List ℕ
     (decodeOf bytes ≡ gives i) × (inRange p i ≡ true)
 unfolding instructionOf
 instruction-means p written bytes i e =
-    let c1 = bound (decodeOf bytes) (λ j. refuse 8 (not (inRange p j)) >> (refuse 9 (not (every written (uses j .reads))) >> gives j)) i e in
-    let c2 = passed 8 (not (inRange p (c1 .0))) (refuse 9 (not (every written (uses (c1 .0) .reads))) >> gives (c1 .0)) i (c1 .2) in
+    let c1 = bound (decodeOf bytes) _ i e in
+    let c2 = passed 8 (not (inRange p (c1 .0))) _ i (c1 .2) in
     let c3 = passed 9 (not (every written (uses (c1 .0) .reads))) (gives (c1 .0)) i (c2 .1) in
     let q : c1 .0 ≡ i = gives-inj (c3 .1) in
     (c1 .1 ∙ ap gives q, ap (inRange p) (sym q) ∙ not-false (inRange p (c1 .0)) (c2 .0))
@@ -160,8 +161,8 @@ pub admit-limits : (p : Program) (written : ℕ → Bool) (bytes : List ℕ) (i 
     within p ≡ true → InRange most-registers most-inputs most-outputs i
 admit-limits p written bytes i e w = range-limits p i w (instruction-means p written bytes i (sym e) .1)
 
-pub admit-room : (file : List ℕ) (at : ℕ) (p : Program) (written : ℕ → Bool) (i : Instruction) → gives i ≡ instructionOf p written (drop at file) →
-    at + lengthOf i ≤ length file
+pub admit-room : (file : List ℕ) (at : ℕ) (p : Program) (written : ℕ → Bool) (i : Instruction) →
+    gives i ≡ instructionOf p written (drop at file) → at + lengthOf i ≤ length file
 admit-room file at p written i e = reads-stands file at i (instruction-means p written (drop at file) i (sym e) .0) .room
 
 -- ---- what is left of a check

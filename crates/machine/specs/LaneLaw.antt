@@ -470,8 +470,8 @@ module _ {A : Type 0} (G : Gates A) (file : List ℕ) (c : Code) (ok : checkOf f
           exec-inputs G inputs inputs′ K same (carried budget position (c .instructions)) (lent G (c .program) registers outputs) b,
         )
 
-    -- so where a start took words of K alone, a resume on what it left, with any other words filled in, comes to what one start on the words
-    -- as they are then comes to
+    -- so where a start took words of K alone, a resume on what it left, with any other words filled in, comes to what one start on the
+    -- words as they are then comes to
     module _ (registers′ outputs′ : List A) where
       pub start-waited : (a b : ℕ) (e : Ended A) → Each (Takes K) (carried a 0 (c .instructions)) →
           startOn G file inputs registers outputs a ≡ gives e → Holds (e .state) registers′ outputs′ →

@@ -137,7 +137,8 @@ module _ {A : Type 0} (G : Gates A) (inputs : List A) where
 
 -- ---- runs of a list of instructions
 -- a run carries out exactly as many instructions as its answer counts
-pub carried-many : (budget position : ℕ) (is : List Instruction) → length (carried budget position is) ≡ answerOf budget position (length is) .count
+pub carried-many : (budget position : ℕ) (is : List Instruction) →
+    length (carried budget position is) ≡ answerOf budget position (length is) .count
 carried-many budget position is =
     omega (arith, length-take (steps budget position (length is)) (drop position is), length-drop position is)
 
@@ -331,7 +332,8 @@ module _ {A : Type 0} (G : Gates A) where
         in-outputs = take-lay (length (s .outputs)) (s .outputs) outputs refl;
       }
 
-  lent-held : (p : Program) (s : State A) (registers outputs : List A) → Sized p s → Holds s registers outputs → lent p registers outputs ≡ s
+  lent-held : (p : Program) (s : State A) (registers outputs : List A) → Sized p s → Holds s registers outputs →
+      lent p registers outputs ≡ s
   lent-held p s registers outputs z h = rw (← z .of-registers, ← z .of-outputs, h .in-registers, h .in-outputs)
 
   front-long : (xs buf : List A) → take (length xs) buf ≡ xs → length xs ≤ length buf
@@ -407,8 +409,10 @@ module _ {A : Type 0} (G : Gates A) where
       left-again =
           let x = sized-first in
           let y = sized-second in
+          let rs : List A = lay (first .state .registers) registers in
+          let os : List A = lay (first .state .outputs) outputs in
           rw (
-            runs-on (lay (first .state .registers) registers) (lay (first .state .outputs) outputs) (holds-laid (first .state) registers outputs),
+            runs-on rs os (holds-laid (first .state) registers outputs),
             ← one-run,
             lay-again (first .state .registers) (second .state .registers) registers (x .of-registers ∙ sym (y .of-registers)),
             lay-again (first .state .outputs) (second .state .outputs) outputs (x .of-outputs ∙ sym (y .of-outputs)),
@@ -455,11 +459,11 @@ module _ {A : Type 0} (G : Gates A) (file : List ℕ) (inputs registers outputs 
         left-again G file inputs registers outputs c (w .accepted) (w .room) s z position (w .before-end) a b,
       )
 
-  -- a start that gave e, resumed on any buffers that hold the registers and outputs that it left, comes to what a start on both budgets together
-  -- comes to: it ends there, with those registers and outputs, and the counts add up to its count
+  -- a start that gave e, resumed on any buffers that hold the registers and outputs that it left, comes to what a start on both budgets
+  -- together comes to: it ends there, with those registers and outputs, and the counts add up to its count
   module _ (registers′ outputs′ : List A) where
-    pub start-continued : (a b : ℕ) (e : Ended A) → startOn G file inputs registers outputs a ≡ gives e → Holds (e .state) registers′ outputs′ →
-        goneOn G file inputs registers′ outputs′ b e ≡ startOn G file inputs registers outputs (together a b)
+    pub start-continued : (a b : ℕ) (e : Ended A) → startOn G file inputs registers outputs a ≡ gives e →
+        Holds (e .state) registers′ outputs′ → goneOn G file inputs registers′ outputs′ b e ≡ startOn G file inputs registers outputs (together a b)
     unfolding GoesOn
     start-continued a b e q held =
         rw (start-is G file inputs registers outputs (together a b))
@@ -537,8 +541,9 @@ module _ {A : Type 0} (G : Gates A) (file : List ℕ) (inputs registers outputs 
       rw (← together-total b x (total xs))
       (start-chain (together b x) xs m f (omega arith) (sym (start-continued registers′ outputs′ b x e q held) ∙ g) c)
 
-  pub resume-chain : (position b : ℕ) (bs : List ℕ) (e f : Ended A) → b < 2 ^ 32 → resumeOn G file inputs registers outputs position b ≡ gives e →
-      Chain G file inputs e bs f → resumeOn G file inputs registers outputs position (together b (total bs)) ≡ gives f
+  pub resume-chain : (position b : ℕ) (bs : List ℕ) (e f : Ended A) → b < 2 ^ 32 →
+      resumeOn G file inputs registers outputs position b ≡ gives e → Chain G file inputs e bs f →
+      resumeOn G file inputs registers outputs position (together b (total bs)) ≡ gives f
   unfolding total
   resume-chain position b [] e f h q here =
       let same : together b 0 ≡ b = omega arith in

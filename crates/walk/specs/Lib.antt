@@ -1,9 +1,9 @@
 -- Definitions first: what a reader compares with 01. Then the laws that the contracts and other crates rest on.
 pub mod Walk
+pub mod Strings
 pub mod Steps
 pub mod Turns
 pub mod Ways
-pub mod Strings
 pub mod Packed
 pub mod Matrices
 pub mod Counts

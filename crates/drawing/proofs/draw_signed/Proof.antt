@@ -49,25 +49,31 @@ enum-told : tie.Need-enum-told
 enum-told c = search needs
 
 returns : tie.Need-returns
-returns c = ends-refused _ _ _ _ _ (drawn-refused _ _ _ _ _ (rw (c .before .why .given .1) at (c .before .before .before .before .before .run-batch .ensures .0)))
+returns c =
+    ends-refused _ _ _ _ _
+    (drawn-refused _ _ _ _ _ (rw (c .before .why .given .1) at (c .before .before .before .before .before .run-batch .ensures .0)))
 
 same-length : tie.Need-same-length
 same-length c = search needs
 
 returns-2 : tie.Need-returns-2
 returns-2 c =
-    let many = rw (c .before .before .before .before .before .before .before .before .n .given .1) at (c .before .before .before .before .before .before .before .before .before .before .before .before .run-batch .ensures .0) in
-    drawn-read _ _ _ _ _ many _ _ (c .before .before .before .before .before .before .before .before .before .before .before .before .run-batch .ensures .1) _ _ _
-    (rw (c .before .why2 .given .1) at (c .before .before .before .before .signed-samples .ensures .0)) (c .before .before .before .before .signed-samples .ensures .1)
+    let read = c .before .before .before .before in
+    let counted = read .before .before .before .before in
+    let batch = counted .before .before .before .before in
+    drawn-read _ _ _ _ _ (rw (counted .n .given .1) at (batch .run-batch .ensures .0)) _ _ (batch .run-batch .ensures .1) _ _ _
+    (rw (c .before .why2 .given .1) at (read .signed-samples .ensures .0)) (read .signed-samples .ensures .1)
 
 same-length-2 : tie.Need-same-length-2
 same-length-2 c = search needs
 
 returns-3 : tie.Need-returns-3
 returns-3 c =
-    let many = rw (c .before .before .before .before .before .before .before .n .given .1) at (c .before .before .before .before .before .before .before .before .before .before .before .run-batch .ensures .0) in
-    drawn-read _ _ _ _ _ many _ _ (c .before .before .before .before .before .before .before .before .before .before .before .run-batch .ensures .1) _ _ _
-    (rw (c .enum-told .given .1) at (c .before .before .before .signed-samples .ensures .0)) (c .before .before .before .signed-samples .ensures .1)
+    let read = c .before .before .before in
+    let counted = read .before .before .before .before in
+    let batch = counted .before .before .before .before in
+    drawn-read _ _ _ _ _ (rw (counted .n .given .1) at (batch .run-batch .ensures .0)) _ _ (batch .run-batch .ensures .1) _ _ _
+    (rw (c .enum-told .given .1) at (read .signed-samples .ensures .0)) (read .signed-samples .ensures .1)
 
 pub draw-signed-spec : {M : Type 1} → statement M
 draw-signed-spec =

@@ -1,5 +1,5 @@
--- `drawing::run_batch` meets its contract: a refusal that is due after the program's own waits for the program's check, and a start on the engine's words
--- comes to what it comes to on just as many as the header says. Assumes nothing.
+-- `drawing::run_batch` meets its contract: a refusal that is due after the program's own waits for the program's check, and a start on the
+-- engine's words comes to what it comes to on just as many as the header says. Assumes nothing.
 use borrow.Author.Needs.{needs}
 use lib.ListN.{replicate}
 use Rattle.laws.specs.Outcome.{ends-refused}
@@ -15,7 +15,8 @@ enum-known-why : tie.Need-enum-known-why
 enum-known-why c = search needs
 
 returns : tie.Need-returns
-returns c = ends-refused _ _ _ _ _ (batch-headless _ _ _ _ (rw (c .before .why .given .1) at (c .before .before .before .read-header .ensures)))
+returns c =
+    ends-refused _ _ _ _ _ (batch-headless _ _ _ _ (rw (c .before .why .given .1) at (c .before .before .before .read-header .ensures)))
 
 enum-known-p : tie.Need-enum-known-p
 enum-known-p c = search needs
@@ -34,7 +35,8 @@ first-refusal-requires c κs = search needs
 
 returns-2 : tie.Need-returns-2
 returns-2 c =
-    let head = rw (c .before .before .before .before .before .before .before .before .p .given .1) at (c .before .before .before .before .before .before .before .before .before .before .read-header .ensures) in
+    let asked = c .before .before .before .before .before .before .before .before in
+    let head = rw (asked .p .given .1) at (asked .before .before .read-header .ensures) in
     let cut = rw (c .before .before .why2 .given .1) at (c .before .before .before .before .before .slice .ensures .0) in
     ends-refused _ _ _ _ _ (batch-strings _ _ _ _ head (replicate most-inputs 0) (search needs) _ _ cut (c .first-refusal .ensures))
 
@@ -46,9 +48,11 @@ first-refusal-requires-2 c κs = search needs
 
 returns-3 : tie.Need-returns-3
 returns-3 c =
-    let head = rw (c .before .before .before .before .before .before .before .before .p .given .1) at (c .before .before .before .before .before .before .before .before .before .before .read-header .ensures) in
+    let asked = c .before .before .before .before .before .before .before .before in
+    let head = rw (asked .p .given .1) at (asked .before .before .read-header .ensures) in
     let cut = rw (c .before .before .enum-told .given .1) at (c .before .before .before .before .before .slice .ensures .0) in
-    ends-refused _ _ _ _ _ (batch-short _ _ _ _ head (replicate most-inputs 0) (search needs) _ _ cut (c .before .if1 .taken) (c .first-refusal2 .ensures))
+    ends-refused _ _ _ _ _
+    (batch-short _ _ _ _ head (replicate most-inputs 0) (search needs) _ _ cut (c .before .if1 .taken) (c .first-refusal2 .ensures))
 
 slice-aggregate-start : tie.Need-slice-aggregate-start
 slice-aggregate-start c = search needs
@@ -70,12 +74,15 @@ same-length-2 c = search needs
 
 returns-4 : tie.Need-returns-4
 returns-4 c =
-    let asked = c .before .before .before .before .before .before .before .before .before .before .before .before .before .before .before .before .before .before in
+    let run = c .before .before .before .before .before .before .before in
+    let cut = run .before .before .before .before .before in
+    let cutting = cut .before .before .before in
+    let asked = cutting .before .before .before in
     let head = rw (asked .p .given .1) at (asked .before .before .read-header .ensures) in
-    let cut = rw (c .before .before .before .before .before .before .before .before .before .before .before .before .enum-told .given .1) at (c .before .before .before .before .before .before .before .before .before .before .before .before .before .before .before .slice .ensures .0) in
-    batch-refused _ _ _ _ head (replicate most-inputs 0) (search needs) (c .before .before .before .before .before .before .before .before .before .before .before .if1 .left) _ _ (search needs) (search needs) _ cut _
-    (c .before .before .before .before .before .before .before .before .before .before .before .before .before .before .before .slice .ensures .1) _ (c .before .before .before .before .before .before .before .start .ensures .1 .1) _
-    (rw (c .before .why3 .given .1) at (c .before .before .before .before .before .before .before .start .ensures .0))
+    let many = rw (cut .enum-told .given .1) at (cutting .slice .ensures .0) in
+    let room = asked .before .before .before .before .before .before .before .pre in
+    batch-refused _ _ _ _ head (replicate most-inputs 0) (search needs) (run .before .before .before .before .if1 .left) _ _ (room .0) (room .1) _
+    many _ (cutting .slice .ensures .1) _ (run .start .ensures .1 .1) _ (rw (c .before .why3 .given .1) at (run .start .ensures .0))
 
 same-length-3 : tie.Need-same-length-3
 same-length-3 c = search needs
@@ -85,12 +92,15 @@ same-length-4 c = search needs
 
 returns-5 : tie.Need-returns-5
 returns-5 c =
-    let asked = c .before .before .before .before .before .before .before .before .before .before .before .before .before .before .before .before .before in
+    let run = c .before .before .before .before .before .before in
+    let cut = run .before .before .before .before .before in
+    let cutting = cut .before .before .before in
+    let asked = cutting .before .before .before in
     let head = rw (asked .p .given .1) at (asked .before .before .read-header .ensures) in
-    let cut = rw (c .before .before .before .before .before .before .before .before .before .before .before .enum-told .given .1) at (c .before .before .before .before .before .before .before .before .before .before .before .before .before .before .slice .ensures .0) in
-    batch-done _ _ _ _ head (replicate most-inputs 0) (search needs) (c .before .before .before .before .before .before .before .before .before .before .if1 .left) _ _ (search needs) (search needs) _ cut _
-    (c .before .before .before .before .before .before .before .before .before .before .before .before .before .before .slice .ensures .1) _ (c .before .before .before .before .before .before .start .ensures .1 .1) _
-    (rw (c .enum-told2 .given .1) at (c .before .before .before .before .before .before .start .ensures .0))
+    let many = rw (cut .enum-told .given .1) at (cutting .slice .ensures .0) in
+    let room = asked .before .before .before .before .before .before .before .pre in
+    batch-done _ _ _ _ head (replicate most-inputs 0) (search needs) (run .before .before .before .before .if1 .left) _ _ (room .0) (room .1) _
+    many _ (cutting .slice .ensures .1) _ (run .start .ensures .1 .1) _ (rw (c .enum-told2 .given .1) at (run .start .ensures .0))
 
 pub run-batch-spec : {M : Type 1} → statement M
 run-batch-spec =

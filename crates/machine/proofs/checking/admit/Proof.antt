@@ -33,7 +33,8 @@ returns-2 : tie.Need-returns-2
 returns-2 c =
     let pre = c .before .before .before in
     admit-unwritten _ _ _ _ _ (rw (pre .before .before .i .given .1) at (pre .before .before .before .before .decode .ensures))
-    (sym (pre .in-range .ensures) ∙ not-false _ (c .before .before .if1 .left)) (sym (c .before .readable .ensures) ∙ not-true _ (c .if2 .taken))
+    (sym (pre .in-range .ensures) ∙ not-false _ (c .before .before .if1 .left))
+    (sym (c .before .readable .ensures) ∙ not-true _ (c .if2 .taken))
 
 returns-3 : tie.Need-returns-3
 returns-3 c = admit-refused _ _ _ _ _ (rw (c .before .why .given .1) at (c .before .before .before .decode .ensures))
@@ -42,7 +43,8 @@ returns-4 : tie.Need-returns-4
 returns-4 c =
     let pre = c .before .before .before in
     admit-gives _ _ _ _ _ (rw (pre .before .before .i .given .1) at (pre .before .before .before .before .decode .ensures))
-    (sym (pre .in-range .ensures) ∙ not-false _ (c .before .before .if1 .left)) (sym (c .before .readable .ensures) ∙ not-false _ (c .if2 .left))
+    (sym (pre .in-range .ensures) ∙ not-false _ (c .before .before .if1 .left))
+    (sym (c .before .readable .ensures) ∙ not-false _ (c .if2 .left))
 
 pub admit-spec : {M : Type 1} → statement M
 admit-spec =

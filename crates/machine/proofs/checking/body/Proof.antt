@@ -32,8 +32,8 @@ enum-known-why c = search needs
 
 returns : tie.Need-returns Inv-loop μ-loop
 returns c =
-    let loop = c .before .before .before .before .before .before .before in
-    checking-refused _ _ _ _ _ _ (loop .loop .inv) (c .before .before .before .before .before .before .loop-test .taken) _
+    let turn = c .before .before .before .before .before .before in
+    checking-refused _ _ _ _ _ _ (turn .before .loop .inv) (turn .loop-test .taken) _
     (rw (c .before .why .given .1) at (c .before .before .before .admit .ensures))
 
 enum-known-i : tie.Need-enum-known-i Inv-loop μ-loop
@@ -41,26 +41,27 @@ enum-known-i c = search needs
 
 mark-register-requires : tie.Need-mark-register-requires Inv-loop μ-loop
 mark-register-requires c κs =
-    let loop = c .before .before .before .before .before .before .before .before in (
-      admit-limits _ _ _ _ (rw (c .before .before .i .given .1) at (c .before .before .before .before .admit .ensures)) (loop .before .before .before .before .pre .0),
-      loop .loop .inv .long,
-    )
+    let i = c .before .before in
+    let loop = i .before .before .before .before .before .before in
+    let start = loop .before .before .before .before in
+    (admit-limits _ _ _ _ (rw (i .i .given .1) at (i .before .before .admit .ensures)) (start .pre .0), loop .loop .inv .long)
 
 mark-output-requires : tie.Need-mark-output-requires Inv-loop μ-loop
 mark-output-requires c κs =
-    let loop = c .before .before .before .before .before .before .before .before .before .before in (
-      admit-limits _ _ _ _ (rw (c .before .before .before .before .i .given .1) at (c .before .before .before .before .before .before .admit .ensures)) (loop .before .before .before .before .pre .0),
-      loop .loop .inv .wide,
-    )
+    let i = c .before .before .before .before in
+    let loop = i .before .before .before .before .before .before in
+    let start = loop .before .before .before .before in
+    (admit-limits _ _ _ _ (rw (i .i .given .1) at (i .before .before .admit .ensures)) (start .pre .0), loop .loop .inv .wide)
 
 length-requires : tie.Need-length-requires Inv-loop μ-loop
 length-requires c κs = search needs
 
 add-at : tie.Need-add-at Inv-loop μ-loop
 add-at c =
-    let loop = c .before .before .before .before .before .before .before .before .before .before .before .before in
-    let h = admit-room (loop .before .before .before .before .args .file .now) (loop .loop .at) _ _ _
-    (rw (c .before .before .before .before .before .before .i .given .1) at (c .before .before .before .before .before .before .before .before .admit .ensures)) in
+    let i = c .before .before .before .before .before .before in
+    let loop = i .before .before .before .before .before .before in
+    let start = loop .before .before .before .before in
+    let h = admit-room (start .args .file .now) (loop .loop .at) _ _ _ (rw (i .i .given .1) at (i .before .before .admit .ensures)) in
     omega (arith, c .length .ensures)
 
 sub-gates : tie.Need-sub-gates Inv-loop μ-loop
@@ -70,41 +71,47 @@ gates-requires : tie.Need-gates-requires Inv-loop μ-loop
 gates-requires c κs =
     let i = c .before .before .before .before .before .before .before in
     let loop = i .before .before .before .before .before .before in
+    let start = loop .before .before .before .before in
+    let length = c .before in
     let one =
     checking-admit _ _ _ _ _ _ (loop .loop .inv) _ (rw (i .i .given .1) at (i .before .before .admit .ensures))
-    (i .before .before .before .before .before .loop-test .taken) _ (c .before .length .ensures) _ _
-    (c .before .before .before .before .mark-register .ensures) (c .before .before .mark-output .ensures) in
-    let start = loop .before .before .before .before in
+    (i .before .before .before .before .before .loop-test .taken) _ (length .length .ensures) _ _
+    (length .before .before .before .mark-register .ensures) (length .before .mark-output .ensures) in
     (within-means (start .args .p) (start .pre .0) .few-registers, one .long, one .inside, search needs, search needs)
 
 gates-requires-2 : tie.Need-gates-requires-2 Inv-loop μ-loop
 gates-requires-2 c κs =
     let i = c .before .before .before .before .before .before .before .before .before in
     let loop = i .before .before .before .before .before .before in
+    let start = loop .before .before .before .before in
+    let length = c .before .before .before in
     let one =
     checking-admit _ _ _ _ _ _ (loop .loop .inv) _ (rw (i .i .given .1) at (i .before .before .admit .ensures))
-    (i .before .before .before .before .before .loop-test .taken) _ (c .before .before .before .length .ensures) _ _
-    (c .before .before .before .before .before .before .mark-register .ensures) (c .before .before .before .before .mark-output .ensures) in
-    let start = loop .before .before .before .before in
+    (i .before .before .before .before .before .loop-test .taken) _ (length .length .ensures) _ _
+    (length .before .before .before .mark-register .ensures) (length .before .mark-output .ensures) in
     let more = checking-passes _ _ _ _ _ _ one _ _ _ (c .before .gates .ensures) in
     (within-means (start .args .p) (start .pre .0) .few-registers, more .long, more .inside, search needs, search needs)
 
 loop-less : tie.Need-loop-less Inv-loop μ-loop
 loop-less c =
+    let i = c .before .before .before .before .before .before .before .before .before .before in
+    let l = i .before .before .before .before .before .loop-test .taken in
     let a = c .before .before .gates .ensures .less in
     let o = c .gates2 .ensures .less in
-    let l = c .before .before .before .before .before .before .before .before .before .before .before .before .before .before .before .loop-test .taken in
     omega arith
 
 loop-again : tie.Need-loop-again Inv-loop μ-loop
 loop-again c =
     let i = c .before .before .before .before .before .before .before .before .before .before in
     let loop = i .before .before .before .before .before .before in
+    let start = loop .before .before .before .before in
+    let length = c .before .before .before .before in
     let one =
     checking-admit _ _ _ _ _ _ (loop .loop .inv) _ (rw (i .i .given .1) at (i .before .before .admit .ensures))
-    (i .before .before .before .before .before .loop-test .taken) _ (c .before .before .before .before .length .ensures) _ _
-    (c .before .before .before .before .before .before .before .mark-register .ensures) (c .before .before .before .before .before .mark-output .ensures) in
-    checking-passes _ _ _ _ _ _ (checking-passes _ _ _ _ _ _ one _ _ _ (c .before .before .gates .ensures)) _ _ _ (c .gates2 .ensures)
+    (i .before .before .before .before .before .loop-test .taken) _ (length .length .ensures) _ _
+    (length .before .before .before .mark-register .ensures) (length .before .mark-output .ensures) in
+    let more = checking-passes _ _ _ _ _ _ one _ _ _ (c .before .before .gates .ensures) in
+    checking-passes _ _ _ _ _ _ more _ _ _ (c .gates2 .ensures)
 
 returns-2 : tie.Need-returns-2 Inv-loop μ-loop
 returns-2 c = checking-left _ _ _ _ _ _ (c .before .before .loop .inv) (c .before .loop-test .left) (c .if1 .taken)
@@ -116,12 +123,14 @@ any-unset-requires c κs =
 
 returns-3 : tie.Need-returns-3 Inv-loop μ-loop
 returns-3 c =
-    checking-unset _ _ _ _ _ _ (c .before .before .before .before .before .before .loop .inv) (c .before .before .before .before .before .loop-test .left) (c .before .before .before .before .if1 .left)
+    let all = c .before .before .before .before in
+    checking-unset _ _ _ _ _ _ (all .before .before .loop .inv) (all .before .loop-test .left) (all .if1 .left)
     (sym (c .before .any-unset .ensures) ∙ c .if2 .taken)
 
 returns-4 : tie.Need-returns-4 Inv-loop μ-loop
 returns-4 c =
-    checking-done _ _ _ _ _ _ (c .before .before .before .before .before .before .loop .inv) (c .before .before .before .before .before .loop-test .left) (c .before .before .before .before .if1 .left)
+    let all = c .before .before .before .before in
+    checking-done _ _ _ _ _ _ (all .before .before .loop .inv) (all .before .loop-test .left) (all .if1 .left)
     (sym (c .before .any-unset .ensures) ∙ c .if2 .left)
 
 pub body-spec : {M : Type 1} → statement M
