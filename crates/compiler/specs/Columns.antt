@@ -5,10 +5,9 @@ use mathlib.Core.List.{List, [], _∷_, _++_}
 use mathlib.Core.Logic.{_≢_, ⊎-elim}
 use native.Mathlib.Omega.{arith}
 use lib.ListN.{length, getD}
-use Rattle.laws.specs.Places.{lt-or-ge}
+use Rattle.laws.specs.Tests.{lt-or-ge}
 use Rattle.laws.specs.Sums.{sumTo}
-use Rattle.laws.specs.Lay.{blocks}
-use Rattle.laws.specs.Each.{Each, each-blocks}
+use Rattle.laws.specs.Lists.{blocks, Each, each-blocks}
 use Rattle.files.specs.Live.{weight}
 use Rattle.programs.specs.declared.description.Instruction.{Instruction}
 use Rattle.programs.specs.declared.description.Instruction.the-variants.{Input, Not, And, Or}

@@ -7,7 +7,7 @@ use native.Mathlib.Omega.{arith}
 use borrow.Author.Tests.{le-leb, ltb-false}
 use lib.Dec.{ltb}
 use lib.ListN.{length}
-use Rattle.laws.specs.Lay.{blocks}
+use Rattle.laws.specs.Lists.{blocks}
 use Rattle.laws.specs.Outcome.{gives, passed, gives-inj}
 use Rattle.files.specs.Matrix.{Matrix, Accepted, bit}
 use Rattle.files.specs.Files.{matrixOf}

@@ -11,7 +11,7 @@ use lib.Dec.{eqb}
 use lib.ListN.{length, getD}
 use lib.Pow.{mod-pow-add}
 use Rattle.laws.specs.Sums.{sumTo, sum-eq}
-use Rattle.laws.specs.Lay.{blocks, upto}
+use Rattle.laws.specs.Lists.{blocks, upto}
 use Rattle.files.specs.Matrix.{Matrix, Accepted, bit}
 use Rattle.walk.specs.Steps.{Below}
 use Rattle.walk.specs.Walk.{Place, found, left, Drawn, hit, miss, Answer, sample, missed, answerOf, drawn}

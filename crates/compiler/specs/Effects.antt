@@ -8,8 +8,7 @@ use native.Mathlib.Nat.{eq-or-lt-of-le, le-of-suc-le-suc}
 use native.Mathlib.Omega.{arith}
 use lib.ListN.{length, getD, length-set}
 use lib.Seq.{getD-set-same, getD-set-other}
-use Rattle.laws.specs.Lay.{blocks}
-use Rattle.laws.specs.Each.{Each}
+use Rattle.laws.specs.Lists.{blocks, Each}
 use Rattle.programs.specs.Instructions.{uses}
 use Rattle.programs.specs.declared.description.Instruction.{Instruction}
 use Rattle.programs.specs.declared.description.Instruction.the-variants.{Ones, Zero, Input, Not, And, Or, Output}

@@ -5,7 +5,8 @@ use mathlib.Core.List.{List, [], _∷_, _++_, append-assoc, append-nil}
 use native.Mathlib.Nat.{add-zero}
 use native.Mathlib.Omega.{arith}
 use lib.ListN.{length, length-append}
-use Rattle.laws.specs.Lay.{blocks, blocks-more, layAt, layAt-nothing, layAt-after, length-layAt}
+use Rattle.laws.specs.Lists.{blocks, blocks-more}
+use Rattle.laws.specs.Lay.{layAt, layAt-nothing, layAt-after, length-layAt}
 use Rattle.laws.specs.Outcome.{laid}
 use Rattle.programs.specs.Limits.{most-registers, most-outputs}
 use Rattle.programs.specs.Instructions.{lengthOf, instructionBytes, encodeOf}

@@ -8,7 +8,7 @@ use native.Mathlib.Omega.{arith}
 use lib.Count as Count
 use lib.ListN.{length, length-append}
 use Rattle.laws.specs.Sums.{sumTo, sum-more}
-use Rattle.laws.specs.Lay.{blocks, blocks-more}
+use Rattle.laws.specs.Lists.{blocks, blocks-more}
 use Rattle.files.specs.Fields.{bitOf}
 use Rattle.files.specs.Matrix.{most-rows, most-columns}
 use Rattle.files.specs.Live.{weight}

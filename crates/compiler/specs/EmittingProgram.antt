@@ -6,7 +6,8 @@ use mathlib.Core.List.{List, _++_}
 use native.Mathlib.Omega.{arith}
 use borrow.Author.Tests.{lt-ltb, le-ltb}
 use lib.ListN.{length, drop, length-append}
-use Rattle.laws.specs.Lay.{blocks, lay, layAt, lay-is, layAt-after}
+use Rattle.laws.specs.Lists.{blocks}
+use Rattle.laws.specs.Lay.{lay, layAt, lay-is, layAt-after}
 use Rattle.laws.specs.Outcome.{refused, gives, mapped, laid, mapped-gives, mapped-refused}
 use Rattle.files.specs.Fields.{width, bit-le}
 use Rattle.files.specs.Matrix.{Accepted, sizes, bit, most-rows, most-columns}

@@ -5,7 +5,7 @@ use mathlib.Core.List.{List, _++_}
 use native.Mathlib.Omega.{arith}
 use lib.ListN.{length, length-append}
 use Rattle.laws.specs.Sums.{sum-eq}
-use Rattle.laws.specs.Lay.{blocks, blocks-eq}
+use Rattle.laws.specs.Lists.{blocks, blocks-eq}
 use Rattle.files.specs.Fields.{width}
 use Rattle.files.specs.Matrix.{Matrix, bit}
 use Rattle.files.specs.Files.{unpacked}

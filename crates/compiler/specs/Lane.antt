@@ -5,8 +5,7 @@ use mathlib.Core.List.{List, [], _∷_, _++_}
 use mathlib.Core.Logic.{_≢_}
 use native.Mathlib.Omega.{arith}
 use lib.ListN.{length, getD}
-use Rattle.laws.specs.Lay.{blocks}
-use Rattle.laws.specs.Each.{each-blocks}
+use Rattle.laws.specs.Lists.{blocks, each-blocks}
 use Rattle.programs.specs.declared.description.Instruction.{Instruction}
 use Rattle.programs.specs.declared.description.Instruction.the-variants.{Ones, Zero, Output}
 use Rattle.walk.specs.Walk.{Place, left}

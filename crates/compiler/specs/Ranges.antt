@@ -6,8 +6,7 @@ use mathlib.Core.Logic.{inl, inr, ⊎-elim}
 use native.Mathlib.Nat.{eq-or-lt-of-le, le-of-suc-le-suc}
 use native.Mathlib.Omega.{arith}
 use Rattle.laws.specs.Sums.{sumTo}
-use Rattle.laws.specs.Lay.{blocks}
-use Rattle.laws.specs.Each.{Each, each-append, each-blocks}
+use Rattle.laws.specs.Lists.{blocks, Each, each-append, each-blocks}
 use Rattle.files.specs.Live.{weight}
 use Rattle.programs.specs.declared.description.Instruction.{Instruction}
 use Rattle.programs.specs.declared.description.Instruction.the-variants.{Or, Output}

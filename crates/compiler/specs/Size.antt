@@ -7,7 +7,7 @@ use native.Mathlib.Omega.{arith}
 use lib.ListN.{length, length-append}
 use lib.Pow.{shr-shr}
 use Rattle.laws.specs.Sums.{sumTo, sum-front, sum-pairs, sum-plus, sum-times, sum-same, sum-eq, sum-mono, sum-le}
-use Rattle.laws.specs.Lay.{blocks, length-blocks}
+use Rattle.laws.specs.Lists.{blocks, length-blocks}
 use Rattle.files.specs.Live.{weight}
 use Rattle.programs.specs.declared.description.Instruction.{Instruction}
 use Rattle.programs.specs.declared.description.Instruction.the-variants.{Or}

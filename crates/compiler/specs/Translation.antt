@@ -4,7 +4,7 @@ use mathlib.Core.Bool.{cond}
 use mathlib.Core.List.{List, [], _∷_, _++_}
 use lib.Dec.{ltb}
 use lib.ListN.{length}
-use Rattle.laws.specs.Lay.{blocks}
+use Rattle.laws.specs.Lists.{blocks}
 use Rattle.laws.specs.Outcome.{Outcome, gives, refuse, _>>_, _>>=_}
 use Rattle.files.specs.Matrix.{Matrix, bit}
 use Rattle.files.specs.Files.{matrixOf}

@@ -2,8 +2,7 @@
 use Prim.Native.Nat.{ℕ, zero, suc, _+_, _*_}
 use mathlib.Core.Path.{_≡_, _∙_}
 use native.Mathlib.Omega.{arith}
-use Rattle.laws.specs.Lay.{upto}
-use Rattle.laws.specs.From.{from, upto-from}
+use Rattle.laws.specs.Lists.{upto, from, upto-from}
 use Rattle.walk.specs.Walk.{Place, found, left, answerOf, at, scan, then, walk}
 use Rattle.walk.specs.Steps.{Below, scan-below}
 use Rattle.compiler.specs.PlaceBits.{doubled, onto, told, told-none, told-column}

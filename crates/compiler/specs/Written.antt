@@ -6,8 +6,7 @@ use mathlib.Core.List.{List, [], _∷_, _++_}
 use mathlib.Core.Logic.{_⊎_, inl, inr, ⊎-elim}
 use native.Mathlib.Nat.{eq-or-lt-of-le}
 use native.Mathlib.Omega.{arith}
-use Rattle.laws.specs.Lay.{blocks}
-use Rattle.laws.specs.Each.{Each, each-blocks}
+use Rattle.laws.specs.Lists.{blocks, Each, each-blocks}
 use Rattle.files.specs.Live.{weight}
 use Rattle.programs.specs.Instructions.{uses}
 use Rattle.programs.specs.declared.description.Instruction.{Instruction}

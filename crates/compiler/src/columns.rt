@@ -1,7 +1,7 @@
 // The columns of a program (01, "Translation"): m packed rows, row v from byte v * stride on, are read bit by bit.
 ghost use Prim.Native.Nat.{_+_, _*_, _≤_, _<_};
 ghost use lib.ListN.{length};
-ghost use Rattle.laws.specs.Lay.{blocks};
+ghost use Rattle.laws.specs.Lists.{blocks};
 ghost use Rattle.files.specs.Live.{weight};
 ghost use Rattle.files.specs.Matrix.{most-columns};
 ghost use Rattle.compiler.specs.Translation.{column, mark, marks};

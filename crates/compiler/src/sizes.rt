@@ -2,7 +2,7 @@
 ghost use mathlib.Core.Path.{_≡_};
 ghost use Prim.Native.Nat.{_+_, _-_, _*_, _≤_, min};
 ghost use lib.ListN.{length};
-ghost use Rattle.laws.specs.Lay.{blocks};
+ghost use Rattle.laws.specs.Lists.{blocks};
 ghost use Rattle.files.specs.Matrix.{most-columns, most-rows};
 ghost use Rattle.programs.specs.Limits.{most-instructions};
 ghost use Rattle.programs.specs.Header.{header-length};

@@ -8,7 +8,8 @@ use borrow.Author.Tests.{lt-ltb, le-ltb, ltb-false}
 use lib.Dec.{ltb}
 use lib.IntN.{ℤ}
 use lib.ListN.{length, take, getD, replicate, length-replicate}
-use Rattle.laws.specs.Lay.{lay, length-lay, length-upto, at-front, take-lay}
+use Rattle.laws.specs.Lists.{length-upto}
+use Rattle.laws.specs.Lay.{lay, length-lay, at-front, take-lay}
 use Rattle.laws.specs.Outcome.{Outcome, refused, gives, refuse, _>>_, _>>=_, mapped, laid, passed, bound, gives-inj, mapped-gives, mapped-refused, bind-is, bind-after, then-after, laid-mapped}
 use Rattle.files.specs.Fields.{width}
 use Rattle.files.specs.Refusal.{numberOf}

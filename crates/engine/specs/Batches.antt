@@ -5,9 +5,9 @@ use mathlib.Core.List.{List}
 use mathlib.Core.Logic.{⊎-elim}
 use native.Mathlib.Omega.{arith}
 use lib.ListN.{length, getD, List·getD-eq-default}
+use Rattle.laws.specs.Tests.{lt-or-ge}
 use Rattle.laws.specs.Words.{bitAt}
-use Rattle.laws.specs.Places.{lt-or-ge}
-use Rattle.laws.specs.Lay.{upto, upto-eq, getD-upto, length-upto}
+use Rattle.laws.specs.Lists.{upto, upto-eq, getD-upto, length-upto}
 use Rattle.laws.specs.Outcome.{gives, mapped, _>>=_, gives-inj}
 use Rattle.files.specs.Fields.{width, bitOf}
 use Rattle.files.specs.Matrix.{Matrix}

@@ -9,7 +9,7 @@ use lib.ListN.{length, replicate}
 use Rattle.laws.specs.Tests.{never, both, same, same-is}
 use Rattle.laws.specs.Sums.{sumTo, any}
 use Rattle.laws.specs.Digits.{number, digit}
-use Rattle.laws.specs.Lay.{blocks, upto}
+use Rattle.laws.specs.Lists.{blocks, upto}
 use Rattle.laws.specs.Outcome.{Outcome, refused, gives, mapped, _>>=_}
 use Rattle.files.specs.Fields.{fieldOf, packedBit, padded, packed, spare}
 use Rattle.files.specs.Matrix.{bit, p, total}

@@ -7,9 +7,9 @@ use mathlib.Core.Logic.{_↔_, ⊎-elim}
 use native.Mathlib.Omega.{arith}
 use lib.ListN.{getD, replicate, length-replicate, List·getD-eq-default}
 use lib.Seq.{take-length}
+use Rattle.laws.specs.Tests.{lt-or-ge}
 use Rattle.laws.specs.Words.{bitAt}
-use Rattle.laws.specs.Places.{lt-or-ge}
-use Rattle.laws.specs.Lay.{upto-eq, take-is}
+use Rattle.laws.specs.Lists.{upto-eq, take-is}
 use Rattle.laws.specs.Outcome.{gives, gives-inj}
 use Rattle.files.specs.Matrix.{Matrix, p, total}
 use Rattle.files.specs.Files.{matrixOf}

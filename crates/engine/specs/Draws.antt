@@ -6,7 +6,7 @@ use native.Mathlib.Omega.{arith}
 use borrow.Author.Tests.{le-ltb}
 use lib.ListN.{replicate, length-replicate}
 use Rattle.laws.specs.Words.{bitAt}
-use Rattle.laws.specs.Lay.{upto}
+use Rattle.laws.specs.Lists.{upto}
 use Rattle.laws.specs.Outcome.{Outcome, gives, _>>=_}
 use Rattle.files.specs.Matrix.{Matrix}
 use Rattle.files.specs.Files.{matrixOf}

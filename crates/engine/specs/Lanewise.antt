@@ -9,7 +9,7 @@ use lib.Dec.{eqb}
 use lib.ListN.{length, getD, length-replicate, length-map, List·getD-map}
 use Rattle.laws.specs.Sums.{sumTo, sum-eq}
 use Rattle.laws.specs.Words.{bitAt, pack, bitAt-lt, bitAt-zero}
-use Rattle.laws.specs.Lay.{upto, upto-eq}
+use Rattle.laws.specs.Lists.{upto, upto-eq}
 use Rattle.laws.specs.Outcome.{gives, mapped}
 use Rattle.files.specs.Matrix.{Matrix, Accepted}
 use Rattle.machine.specs.Meaning.{words, bits, exec-long}

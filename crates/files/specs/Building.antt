@@ -9,7 +9,7 @@ use borrow.Author.Tests.{lt-ltb, le-ltb, eq-eqb, ne-eqb}
 use lib.ListN.{length, getD}
 use Rattle.laws.specs.Sums.{sumTo, sum-eq, sum-mono, sum-times, term-le}
 use Rattle.laws.specs.Digits.{number-shift, number-digit, digit, digit-le}
-use Rattle.laws.specs.Lay.{upto, length-upto, getD-upto, length-blocks, getD-blocks, blocks-each}
+use Rattle.laws.specs.Lists.{upto, length-upto, getD-upto, length-blocks, getD-blocks, blocks-each}
 use Rattle.laws.specs.Outcome.{refused, gives}
 use Rattle.files.specs.Matrix.{Accepted, bit, p, total, outside, most-rows, most-columns}
 use Rattle.files.specs.Files.{fileLength, matrixFile}

@@ -10,7 +10,7 @@ use lib.ListN.{length, drop}
 use Rattle.laws.specs.Tests.{neither}
 use Rattle.laws.specs.Sums.{any, sum-eq}
 use Rattle.laws.specs.Digits.{number, number-shift}
-use Rattle.laws.specs.Lay.{upto, getD-blocks, getD-upto, length-upto}
+use Rattle.laws.specs.Lists.{upto, getD-blocks, getD-upto, length-upto}
 use Rattle.laws.specs.Outcome.{Outcome, refused, gives, refuse, _>>_, _>>=_, passed, bound, mapped, mapped-gives, mapped-refused, gives-inj}
 use Rattle.files.specs.Fields.{fieldOf, width, bitOf, packedBit, spare}
 use Rattle.files.specs.Matrix.{Matrix, Sizes, sizes, bit, p, total, outside, most-rows, most-columns}

@@ -11,9 +11,10 @@ use lib.Bits.{bitAnd, and-mask}
 use lib.Dec.{eqb, ltb}
 use lib.ListN.{length, getD, set, length-set, List·getD-eq-default}
 use lib.Pow.{pow-pos, shl-exact}
+use Rattle.laws.specs.Tests.{lt-or-ge}
 use Rattle.laws.specs.Digits.{number, digit, digit-le, number-shift, low-digits, number-zero, zero-digits}
-use Rattle.laws.specs.Places.{lt-or-ge}
-use Rattle.laws.specs.Lay.{upto, layAt, layAt-after, set-is, upto-eq, length-upto}
+use Rattle.laws.specs.Lists.{upto, upto-eq, length-upto}
+use Rattle.laws.specs.Lay.{layAt, layAt-after, set-is}
 
 -- the 16-bit field at place `at`; what lies beyond the end is 0
 unfoldable pub fieldOf : List ℕ → ℕ → ℕ

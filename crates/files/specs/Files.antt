@@ -6,7 +6,7 @@ use mathlib.Core.List.{List, _++_}
 use lib.Dec.{eqb, ltb}
 use lib.ListN.{length, getD, take, drop}
 use Rattle.laws.specs.Sums.{any}
-use Rattle.laws.specs.Lay.{blocks, upto}
+use Rattle.laws.specs.Lists.{blocks, upto}
 use Rattle.laws.specs.Outcome.{Outcome, refused, gives, refuse, _>>_, _>>=_}
 use Rattle.files.specs.Fields.{fieldOf, fieldBytes, width, bitOf, packed, spare}
 use Rattle.files.specs.Matrix.{Matrix, Sizes, bit, total, outside, most-rows, most-columns}

@@ -3,7 +3,7 @@ use Prim.Native.Nat.{ℕ, _*_, _<_}
 use mathlib.Core.Path.{_≡_}
 use mathlib.Core.List.{List}
 use lib.ListN.{length}
-use Rattle.laws.specs.Lay.{table-ext}
+use Rattle.laws.specs.Lists.{table-ext}
 use Rattle.files.specs.Matrix.{Matrix, bit}
 
 -- two matrices are equal when m, n and every bit agree

@@ -10,7 +10,8 @@ use lib.ListN.{length, getD, take, drop, length-drop, take-append-drop}
 use lib.Seq.{getD-drop, getD-take, length-take-le}
 use Rattle.laws.specs.Sums.{any, any-all, any-false}
 use Rattle.laws.specs.Digits.{number, number-shift, number-digit, digit, digit-number}
-use Rattle.laws.specs.Lay.{blocks, upto, lay, getD-blocks, length-blocks, blocks-each, getD-upto, length-upto, table-ext, take-is, length-lay, take-lay, at-front}
+use Rattle.laws.specs.Lists.{blocks, upto, getD-blocks, length-blocks, blocks-each, getD-upto, length-upto, table-ext, take-is}
+use Rattle.laws.specs.Lay.{lay, length-lay, take-lay, at-front}
 use Rattle.laws.specs.Outcome.{gives, refuse, _>>_, _>>=_, passed, bound, gives-inj}
 use Rattle.files.specs.Fields.{fieldOf, fieldBytes, width, bitOf, packedBit, bit-le, padded, padded-le, padded-below, padded-above, padded-both, packed, length-packed, spare, spare-none, spare-zero}
 use Rattle.files.specs.Matrix.{Matrix, sizes, Accepted, bit, total, outside, most-rows, most-columns}

@@ -7,7 +7,7 @@ use lib.Dec.{eqb, leb, ltb}
 use lib.ListN.{length, getD}
 use Rattle.laws.specs.Sums.{sumTo}
 use Rattle.laws.specs.Digits.{number, digit}
-use Rattle.laws.specs.Lay.{blocks, upto}
+use Rattle.laws.specs.Lists.{blocks, upto}
 use Rattle.laws.specs.Outcome.{Outcome, gives, refuse, _>>_}
 use Rattle.files.specs.Fields.{padded}
 use Rattle.files.specs.Matrix.{Matrix, outside, most-rows, most-columns}

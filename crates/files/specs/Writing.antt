@@ -10,8 +10,8 @@ use lib.ListN.{length, getD, take, length-append}
 use lib.Seq.{getD-take}
 use Rattle.laws.specs.Sums.{any, any-false}
 use Rattle.laws.specs.Digits.{digit}
-use Rattle.laws.specs.Places.{row-end}
-use Rattle.laws.specs.Lay.{blocks, blocks-eq, lay, layAt, layAt-after, lay-is, length-blocks}
+use Rattle.laws.specs.Lists.{row-end, blocks, blocks-eq, length-blocks}
+use Rattle.laws.specs.Lay.{lay, layAt, layAt-after, lay-is}
 use Rattle.laws.specs.Outcome.{refused, gives}
 use Rattle.files.specs.Fields.{fieldBytes, packedBit, packed, packed-eq, width, length-packed}
 use Rattle.files.specs.Matrix.{Matrix, bit, total, outside, most-rows, most-columns}

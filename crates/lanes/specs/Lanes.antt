@@ -12,11 +12,12 @@ use lib.IntN.{ℤ, pos, negℤ, natAbs}
 use lib.Pow.{pow-mono}
 use lib.ListN.{length, getD, drop, length-take, length-drop, List·getD-eq-default}
 use lib.Seq.{getD-take, getD-drop}
+use Rattle.laws.specs.Tests.{lt-or-ge}
 use Rattle.laws.specs.Sums.{any, any-false, any-all}
 use Rattle.laws.specs.Digits.{number, digit, number-shift}
 use Rattle.laws.specs.Words.{bitAt, pack, bitAt-lt, bitAt-zero, bitAt-pack, pack-bits, pack-eq, pack-lt}
-use Rattle.laws.specs.Places.{lt-or-ge, row-end}
-use Rattle.laws.specs.Lay.{lay, upto, length-upto, getD-upto, at-front}
+use Rattle.laws.specs.Lists.{row-end, upto, length-upto, getD-upto}
+use Rattle.laws.specs.Lay.{lay, at-front}
 use Rattle.laws.specs.Outcome.{gives, refuse, _>>_, gives-inj, laid, mapped, mapped-gives, passed, refuse-gives, then-gives}
 use Rattle.files.specs.Fields.{bitOf, packedBit, bit-le, spare, width}
 use Rattle.files.specs.Matrix.{outside, most-columns}

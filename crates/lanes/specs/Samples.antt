@@ -13,7 +13,7 @@ use lib.Dec.{eqb, ltb, lit<}
 use lib.IntN.{ℤ, pos, negℤ, _-ℤ_, +ℤ-idl}
 use lib.ListN.{length, getD}
 use Rattle.laws.specs.Words.{bitAt, pack, Packed, packed-more, packed-done}
-use Rattle.laws.specs.Lay.{upto}
+use Rattle.laws.specs.Lists.{upto}
 use Rattle.laws.specs.Outcome.{Outcome, refused, gives, refuse, _>>_}
 use Rattle.files.specs.Matrix.{outside}
 use Rattle.files.specs.Refusal.{numberOf}

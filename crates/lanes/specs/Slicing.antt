@@ -7,8 +7,7 @@ use borrow.Author.Tests.{lt-ltb, le-ltb, ltb-false}
 use lib.Dec.{ltb}
 use lib.ListN.{length, take, drop}
 use Rattle.laws.specs.Words.{pack, Packed, packed-done}
-use Rattle.laws.specs.Places.{row-end}
-use Rattle.laws.specs.Lay.{upto}
+use Rattle.laws.specs.Lists.{row-end, upto}
 use Rattle.laws.specs.Outcome.{Outcome, refused, gives, refuse, _>>_, passed}
 use Rattle.files.specs.Fields.{bitOf, width}
 use Rattle.files.specs.Matrix.{outside, most-columns}

@@ -2,7 +2,8 @@
 ghost use mathlib.Core.Path.{_≡_};
 ghost use Prim.Native.Nat.{_*_, _/_, _≤_, _<_};
 ghost use lib.ListN.{length};
-ghost use Rattle.laws.specs.Lay.{lay, layAt, upto};
+ghost use Rattle.laws.specs.Lists.{upto};
+ghost use Rattle.laws.specs.Lay.{lay, layAt};
 ghost use Rattle.laws.specs.Outcome.{laid, mapped};
 ghost use Rattle.files.specs.Fields.{width};
 ghost use Rattle.lanes.specs.Slicing.{lanes, sliceOf, sliced, wordOf};

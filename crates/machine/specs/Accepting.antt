@@ -12,9 +12,8 @@ use lib.ListN.{length, drop}
 use lib.Seq.{drop-at}
 use Rattle.laws.specs.Tests.{never}
 use Rattle.laws.specs.Sums.{any-all}
-use Rattle.laws.specs.Lay.{blocks}
+use Rattle.laws.specs.Lists.{blocks, Each, each-more}
 use Rattle.laws.specs.Outcome.{gives}
-use Rattle.laws.specs.Each.{Each, each-more}
 use Rattle.programs.specs.Limits.{within}
 use Rattle.programs.specs.Instructions.{uses, lengthOf, instructionBytes, decodeOf}
 use Rattle.programs.specs.Header.{header-length, headerBytes, codeBytes, programFile}

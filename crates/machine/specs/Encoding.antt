@@ -11,8 +11,8 @@ use lib.ListN.{length, getD, drop}
 use lib.Seq.{getD-drop}
 use Rattle.laws.specs.Tests.{never, both}
 use Rattle.laws.specs.Sums.{any, any-false}
+use Rattle.laws.specs.Lists.{Each}
 use Rattle.laws.specs.Outcome.{gives, passed, bound, gives-inj}
-use Rattle.laws.specs.Each.{Each}
 use Rattle.programs.specs.Limits.{most-registers, most-inputs, most-outputs, most-instructions, within}
 use Rattle.programs.specs.Instructions.{uses, lengthOf, instructionBytes, decodeOf}
 use Rattle.programs.specs.Header.{header-length, headerBytes, codeBytes, programFile}

@@ -12,8 +12,8 @@ use lib.Dec.{eqb}
 use lib.ListN.{length, getD, set, take, drop, replicate, length-map, List·getD-map}
 use lib.Seq.{ext-getD, getD-take, getD-set-same, getD-set-other, length-take-le, take-all}
 use Rattle.laws.specs.Words.{bitAt, bitAt-zero, bitAt-and, bitAt-or, bitAt-not}
+use Rattle.laws.specs.Lists.{Each, each-take, each-drop, each-more}
 use Rattle.laws.specs.Outcome.{gives, mapped, mapped-gives, mapped-mapped}
-use Rattle.laws.specs.Each.{Each, each-take, each-drop, each-more}
 use Rattle.programs.specs.Instructions.{uses}
 use Rattle.programs.specs.declared.description.Program.{Program}
 use Rattle.programs.specs.declared.description.Instruction.{Instruction}

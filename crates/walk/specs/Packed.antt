@@ -11,7 +11,7 @@ use lib.ListN.{length, getD, length-append, List·getD-append}
 use lib.Seq.{take-all}
 use Rattle.laws.specs.Sums.{any}
 use Rattle.laws.specs.Digits.{digit, number-shift}
-use Rattle.laws.specs.Lay.{blocks, upto, upto-eq, take-is}
+use Rattle.laws.specs.Lists.{blocks, upto, upto-eq, take-is}
 use Rattle.laws.specs.Outcome.{refuse, gives, _>>_}
 use Rattle.files.specs.Fields.{width, packedBit, bitOf, packed, padded, padded-below, padded-above, length-packed, spare, spare-none}
 use Rattle.files.specs.Matrix.{outside, most-columns}

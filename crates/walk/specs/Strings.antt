@@ -7,7 +7,7 @@ use native.Mathlib.Nat.{pow-succ'}
 use native.Mathlib.Omega.{arith}
 use lib.ListN.{length, getD, length-append, length-map}
 use Rattle.laws.specs.Tests.{same}
-use Rattle.laws.specs.Each.{Each, each-append, each-map, each-more}
+use Rattle.laws.specs.Lists.{Each, each-append, each-map, each-more}
 
 -- s is a string of n bits
 pub record Bits (n : ℕ) (s : List ℕ) : Type 0 where

@@ -9,7 +9,7 @@ use borrow.Author.Tests.{eq-eqb, ne-eqb}
 use lib.Dec.{eqb}
 use lib.ListN.{length}
 use Rattle.laws.specs.Sums.{sumTo}
-use Rattle.laws.specs.Lay.{upto, length-upto, upto-eq}
+use Rattle.laws.specs.Lists.{upto, length-upto, upto-eq}
 use Rattle.laws.specs.Outcome.{Outcome, refused, gives, _>>_, gives-inj, no-result}
 use Rattle.files.specs.Fields.{width, bitOf}
 use Rattle.files.specs.Matrix.{Matrix, Accepted, bit, p, total}

@@ -4,8 +4,7 @@ use mathlib.Core.Path.{_≡_, sym, _∙_}
 use native.Mathlib.Nat.{sub-zero, mul-le-mul}
 use native.Mathlib.Numerals.{add-one}
 use native.Mathlib.Omega.{arith}
-use Rattle.laws.specs.Lay.{upto}
-use Rattle.laws.specs.From.{from, upto-from}
+use Rattle.laws.specs.Lists.{upto, from, upto-from}
 use Rattle.walk.specs.Walk.{Drawn, hit, miss, Place, found, at, scan, then, walk}
 use Rattle.walk.specs.Steps.{at-pass, at-hit, at-near, scan-none, scan-turn, far}
 

@@ -4,7 +4,7 @@ use mathlib.Core.Path.{_≡_, sym, ap, _∙_}
 use mathlib.Core.List.{List}
 use native.Mathlib.Omega.{arith}
 use lib.ListN.{drop}
-use Rattle.laws.specs.Lay.{upto, length-upto}
+use Rattle.laws.specs.Lists.{upto, length-upto}
 use Rattle.laws.specs.Outcome.{refused, gives, mapped, mapped-gives, mapped-refused}
 use Rattle.files.specs.Fields.{width, bitOf}
 use Rattle.files.specs.Matrix.{Sizes, sizes, bit}

@@ -4,7 +4,7 @@
 // holds of all strings together is in specs/Theorems.antt.
 ghost use mathlib.Core.Path.{_≡_};
 ghost use Prim.Native.Nat.{_*_, _≤_};
-ghost use Rattle.laws.specs.Lay.{upto};
+ghost use Rattle.laws.specs.Lists.{upto};
 ghost use Rattle.laws.specs.Outcome.{mapped};
 ghost use Rattle.files.specs.Fields.{bitOf, width};
 ghost use Rattle.walk.specs.Walk.{answerOf, drawnOf, walk, walked, walkOf};

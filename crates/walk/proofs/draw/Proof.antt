@@ -3,7 +3,7 @@ use borrow.Author.Needs.{needs}
 use mathlib.Core.Logic.{⊎-elim}
 use mathlib.Core.Path.{_≡_, ap, _∙_}
 use Prim.Native.Nat.{_+_, _-_, _*_, _≤_, _<_}
-use Rattle.laws.specs.Lay.{upto}
+use Rattle.laws.specs.Lists.{upto}
 use Rattle.files.specs.Fields.{bitOf, width}
 use Rattle.walk.specs.declared.Drawn.the-variants as Drawn
 use Rattle.walk.specs.Walk as W

@@ -1,7 +1,7 @@
 -- `walk::walk` meets its contract: the file's checks, then the string's, then what is drawn from the packed rows. Assumes nothing.
 use borrow.Author.Needs.{needs}
 use native.Mathlib.Omega.{arith}
-use Rattle.laws.specs.Lay.{rest-is}
+use Rattle.laws.specs.Lists.{rest-is}
 use Rattle.files.specs.Checks.{checked-whole}
 use Rattle.walk.specs.Ways.{walk-refused, walk-string, walk-draws}
 use Rattle.walk.proofs.walk.Statement.{statement}

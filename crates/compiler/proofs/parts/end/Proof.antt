@@ -3,7 +3,7 @@ use borrow.Author.Needs.{needs}
 use native.Mathlib.Omega.{arith}
 use Prim.Native.Nat.{_+_, _-_, _≤_}
 use lib.ListN.{length}
-use Rattle.laws.specs.Lay.{blocks}
+use Rattle.laws.specs.Lists.{blocks}
 use Rattle.compiler.specs.Translation.{tell}
 use Rattle.compiler.specs.Emitting.{size, Emitted, parts-none, parts-room, parts-more, parts-done}
 use Rattle.compiler.specs.EmittingParts.{size-end, end-emitted}

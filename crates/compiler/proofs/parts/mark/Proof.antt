@@ -4,11 +4,11 @@ use native.Mathlib.Omega.{arith}
 use mathlib.Core.Path.{_≡_}
 use Prim.Native.Nat.{_+_, _-_, _≤_}
 use lib.ListN.{length}
-use Rattle.laws.specs.Lay.{blocks}
+use Rattle.laws.specs.Digits.{and-one}
+use Rattle.laws.specs.Lists.{blocks}
 use Rattle.compiler.specs.Translation.{regY, spell}
 use Rattle.compiler.specs.Emitting.{size, Emitted, parts-none, parts-room, parts-more, parts-done}
 use Rattle.compiler.specs.EmittingParts.{size-mark, mark-emitted}
-use Rattle.laws.specs.Digits.{and-one}
 use Rattle.compiler.proofs.parts.mark.Statement.{statement}
 use Rattle.compiler.proofs.parts.mark.Tie as tie
 

@@ -4,7 +4,7 @@ use native.Mathlib.Omega.{arith}
 use mathlib.Core.Path.{_≡_}
 use Prim.Native.Nat.{_-_, _*_, _≤_}
 use lib.ListN.{length}
-use Rattle.laws.specs.Lay.{blocks}
+use Rattle.laws.specs.Lists.{blocks}
 use Rattle.compiler.specs.Translation.{rowBits, column}
 use Rattle.compiler.specs.EmittingColumns.{packedRows, Live, live-first, live-more, count-more, count-done}
 use Rattle.compiler.proofs.sizes.count_columns.Statement.{statement}

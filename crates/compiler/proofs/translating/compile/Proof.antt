@@ -1,7 +1,7 @@
 -- `compiler::compile` meets its contract: the file's checks, then the buffer's against the measured size, then the program is laid. Assumes nothing.
 use borrow.Author.Needs.{needs}
 use native.Mathlib.Omega.{arith}
-use Rattle.laws.specs.Lay.{rest-is}
+use Rattle.laws.specs.Lists.{rest-is}
 use Rattle.laws.specs.Outcome.{ends-refused, ends-given}
 use Rattle.files.specs.Checks.{checked-whole}
 use Rattle.compiler.specs.EmittingProgram.{checked-packed, compile-refused, compile-short, compile-gives}

@@ -5,7 +5,7 @@ use mathlib.Core.Path.{_≡_, sym, _∙_}
 use mathlib.Core.Bool.{false}
 use Prim.Native.Nat.{_-_, _*_, _≤_}
 use Rattle.laws.specs.Sums.{any, any-none, any-more, any-found, any-done}
-use Rattle.laws.specs.Places.{row-end}
+use Rattle.laws.specs.Lists.{row-end}
 use Rattle.files.specs.Fields.{spare, width}
 use Rattle.files.proofs.packing.any_spare.Statement.{statement}
 use Rattle.files.proofs.packing.any_spare.Tie as tie

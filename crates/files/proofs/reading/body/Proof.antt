@@ -4,8 +4,7 @@ use native.Mathlib.Omega.{arith}
 use mathlib.Core.Path.{sym, _∙_}
 use Prim.Native.Nat.{_-_}
 use lib.ListN.{length, length-drop}
-use Rattle.laws.specs.Places.{row-end}
-use Rattle.laws.specs.Lay.{rest-is}
+use Rattle.laws.specs.Lists.{row-end, rest-is}
 use Rattle.files.specs.Fields.{width}
 use Rattle.files.specs.Checks.{body-spare, body-sum, body-gives, live-sum}
 use Rattle.files.proofs.reading.body.Statement.{statement}

@@ -3,7 +3,8 @@ use borrow.Author.Needs.{needs}
 use native.Mathlib.Omega.{arith}
 use mathlib.Core.Path.{refl, _∙_}
 use native.Mathlib.Nat.{mul-le-mul}
-use Rattle.laws.specs.Lay.{rest-is, lay-is}
+use Rattle.laws.specs.Lists.{rest-is}
+use Rattle.laws.specs.Lay.{lay-is}
 use Rattle.laws.specs.Outcome.{ends-refused, ends-given}
 use Rattle.files.specs.Files.{unpacked}
 use Rattle.files.specs.Checks.{checked-whole, read-refused, read-short, read-gives}

@@ -2,8 +2,9 @@
 use borrow.Author.Needs.{needs}
 use mathlib.Core.Path.{_≡_, refl, _∙_}
 use Prim.Native.Nat.{_-_, _*_, _≤_}
-use Rattle.laws.specs.Lay.{Laid, upto, upto-none, laid-store, upto-done}
 use Rattle.laws.specs.Digits.{number}
+use Rattle.laws.specs.Lists.{upto}
+use Rattle.laws.specs.Lay.{Laid, upto-none, laid-store, upto-done}
 use Rattle.files.specs.Fields.{padded, packed, width}
 use Rattle.files.specs.Weights.{quotient, rest-after}
 use Rattle.files.specs.Division.{rest-none, rest-byte, byte-on}

@@ -3,9 +3,9 @@ use borrow.Author.Needs.{needs}
 use native.Mathlib.Omega.{arith}
 use mathlib.Core.Path.{_≡_, refl, ap}
 use Prim.Native.Nat.{ℕ, _+_, _-_, _*_, _≤_}
-use Rattle.laws.specs.Places.{row-end}
+use Rattle.laws.specs.Lists.{row-end, blocks}
+use Rattle.laws.specs.Lay.{Laid, blocks-none, laid-block, blocks-done}
 use lib.ListN.{length, getD}
-use Rattle.laws.specs.Lay.{Laid, blocks, blocks-none, laid-block, blocks-done}
 use Rattle.files.specs.Fields.{packed, length-packed, width}
 use Rattle.files.specs.Writing.{cell}
 use Rattle.files.proofs.writing.pack_rows.Statement.{statement}

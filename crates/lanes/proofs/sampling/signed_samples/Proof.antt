@@ -4,7 +4,8 @@ use native.Mathlib.Omega.{arith}
 use mathlib.Core.Path.{refl, _∙_}
 use Prim.Native.Nat.{_-_, _≤_}
 use Rattle.laws.specs.Words.{bitAt}
-use Rattle.laws.specs.Lay.{Laid, upto, upto-none, laid-store, upto-done, lay-is}
+use Rattle.laws.specs.Lists.{upto}
+use Rattle.laws.specs.Lay.{Laid, upto-none, laid-store, upto-done, lay-is}
 use Rattle.laws.specs.Outcome.{ends-refused, ends-given}
 use Rattle.files.specs.Checks.{inside, below, above}
 use Rattle.lanes.specs.Slicing.{lanes}

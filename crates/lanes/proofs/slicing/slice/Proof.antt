@@ -1,7 +1,8 @@
 -- `lanes::slice` meets its contract: the checks of the strings, then that of the words, then the words are laid. Assumes nothing.
 use borrow.Author.Needs.{needs}
 use mathlib.Core.Path.{sym, _∙_}
-use Rattle.laws.specs.Lay.{lay-is, length-upto}
+use Rattle.laws.specs.Lists.{length-upto}
+use Rattle.laws.specs.Lay.{lay-is}
 use Rattle.laws.specs.Outcome.{ends-refused, ends-given}
 use Rattle.lanes.specs.Slicing.{slice-refused, slice-short, slice-gives, strings-there}
 use Rattle.lanes.proofs.slicing.slice.Statement.{statement}
