@@ -12,7 +12,8 @@ use Rattle.laws.specs.Outcome.{gives, passed, gives-inj}
 use Rattle.files.specs.Matrix.{Matrix, Accepted, bit}
 use Rattle.files.specs.Files.{matrixOf}
 use Rattle.files.specs.RoundTrip.{read-accepted}
-use Rattle.programs.specs.Limits.{most-registers, most-inputs, most-outputs, most-instructions, among, within}
+use Rattle.programs.specs.Limits.{most-registers, most-inputs, most-outputs, most-instructions, within}
+use Rattle.programs.specs.Reading.{among-limits}
 use Rattle.machine.specs.Checks.{checkOf}
 use Rattle.machine.specs.Accepting.{Sound, accepted}
 use Rattle.compiler.specs.Translation.{rowBits, begin, end, column, translation, program, compiled, compileOf}
@@ -21,9 +22,6 @@ use Rattle.compiler.specs.Room.{accepted-roomy}
 use Rattle.compiler.specs.Ranges.{in-range, all-set}
 use Rattle.compiler.specs.Written.{written-first}
 use Rattle.compiler.specs.Size.{short}
-
-among-limits : (most x : ℕ) → 1 ≤ x → x ≤ most → among most x ≡ true
-among-limits most x a b = rw (le-leb 1 x a, le-leb x most b)
 
 module _ (M : Matrix) (a : Accepted M) where
   within-limits : within (program M) ≡ true

@@ -5,7 +5,7 @@ use mathlib.Core.Bool.{Bool, true, false, not, _||_}
 use mathlib.Core.List.{List, [], _∷_, _++_}
 use mathlib.Core.Logic.{_⊎_, inl, inr, ⊎-elim, _↔_}
 use native.Mathlib.Omega.{arith}
-use borrow.Author.Tests.{ltb-true, ltb-false, eqb-true, not-false, le-leb}
+use borrow.Author.Tests.{ltb-true, ltb-false, eqb-true, not-false}
 use lib.Dec.{eqb, ltb}
 use lib.ListN.{length, getD, drop}
 use lib.Seq.{getD-drop}
@@ -13,10 +13,9 @@ use Rattle.laws.specs.Tests.{never, both}
 use Rattle.laws.specs.Sums.{any, any-false}
 use Rattle.laws.specs.Lists.{Each}
 use Rattle.laws.specs.Outcome.{gives, passed, bound, gives-inj}
-use Rattle.programs.specs.Limits.{most-registers, most-inputs, most-outputs, most-instructions, within}
 use Rattle.programs.specs.Instructions.{uses, lengthOf, instructionBytes, decodeOf}
 use Rattle.programs.specs.Header.{header-length, headerBytes, codeBytes, programFile}
-use Rattle.programs.specs.Reading.{Within, within-means}
+use Rattle.programs.specs.Reading.{Within, within-means, limits-hold}
 use Rattle.programs.specs.Inverse.{header-reads, instruction-back, header-back}
 use Rattle.programs.specs.declared.description.Program.{Program}
 use Rattle.programs.specs.declared.description.Instruction.{Instruction}
@@ -263,18 +262,6 @@ earlier-ready W (x ∷ xs) f = (
     here k r (inl w) = inl (inr w)
     here k r (inr (zero, e, l, a, o)) = inl (inl (rw a o))
     here k r (inr (suc j, e, l, a, o)) = inr (j, e, omega arith, a, o)
-
-limits-hold : (p : Program) → Within p → within p ≡ true
-limits-hold p w =
-    rw (
-      le-leb 1 (p .registers) (w .some-registers),
-      le-leb (p .registers) most-registers (w .few-registers),
-      le-leb 1 (p .inputs) (w .some-inputs),
-      le-leb (p .inputs) most-inputs (w .few-inputs),
-      le-leb 1 (p .outputs) (w .some-outputs),
-      le-leb (p .outputs) most-outputs (w .few-outputs),
-      le-leb (p .count) most-instructions (w .few-instructions),
-    )
 
 module _ (p : Program) (is : List Instruction) where
   pub sound-formed : Sound p is → WellFormed p is

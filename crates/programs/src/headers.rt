@@ -61,8 +61,10 @@ fn store_header(p: Program, out: &mut [u8])
 
 // Writes a header at the front of `out`, and answers its length; or refusal 3 where it is outside the limits, then 13.
 pub fn write_header(p: Program, out: &mut [u8]) -> Written
-    ensures { λ r. ⌜ written r ≡ mapped length (writeHeaderOf p (length (now (out .entry)))) ⌝ }
-    ensures { λ r. ⌜ now (out .exit) ≡ lay (laid (λ bytes. bytes) (writeHeaderOf p (length (now (out .entry))))) (now (out .entry)) ⌝ }
+    ensures { λ r. ⌜ (
+        let o = writeHeaderOf p (length (now (out .entry))) in
+        (written r ≡ mapped length o) × (now (out .exit) ≡ lay (laid (λ bytes. bytes) o) (now (out .entry)))
+        ) ⌝ }
 {
     if !p.within() {
         return Written::Refused(Refusal::Size);

@@ -87,8 +87,10 @@ impl Instruction {
 
 // Writes an instruction at byte `at` of `out`, and answers its length; or refusal 13 where it has no room there.
 pub fn encode(i: Instruction, out: &mut [u8], at: usize) -> Written
-    ensures { λ r. ⌜ written r ≡ mapped length (encodeOf i at (length (now (out .entry)))) ⌝ }
-    ensures { λ r. ⌜ now (out .exit) ≡ layAt at (laid (λ bytes. bytes) (encodeOf i at (length (now (out .entry))))) (now (out .entry)) ⌝ }
+    ensures { λ r. ⌜ (
+        let o = encodeOf i at (length (now (out .entry))) in
+        (written r ≡ mapped length o) × (now (out .exit) ≡ layAt at (laid (λ bytes. bytes) o) (now (out .entry)))
+        ) ⌝ }
 {
     let length = i.length();
     if out.len() < at {

@@ -2,7 +2,6 @@
 use borrow.Author.Needs.{needs}
 use Rattle.programs.specs.Records.{field-after}
 use native.Mathlib.Omega.{arith}
-use mathlib.Core.List.{[], _∷_}
 use mathlib.Core.Path.{refl}
 use Rattle.programs.proofs.fields.put_four.Statement.{statement}
 use Rattle.programs.proofs.fields.put_four.Tie as tie
@@ -20,7 +19,10 @@ same-length : tie.Need-same-length
 same-length c = search needs
 
 returns : tie.Need-returns
-returns c = field-after _ _ (c .before .before .before .before .before .before .before .before .before .args .x ∷ c .before .before .before .before .before .before .before .before .before .args .y ∷ c .before .before .before .before .before .before .before .before .before .args .z ∷ []) _ _ _ _ refl (omega arith) (c .before .before .before .before .before .before .put-three .ensures) (c .before .before .put .ensures)
+returns c =
+    let last = c .before .before in
+    let first = last .before .before .before .before in
+    field-after _ _ _ _ _ _ _ _ (first .put-three .ensures) (last .put .ensures) refl refl (omega arith)
 
 pub put-four-spec : {M : Type 1} → statement M
 put-four-spec = tie.close (tie.spec put-three-requires add-put put-requires same-length returns)

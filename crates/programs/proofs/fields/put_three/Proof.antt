@@ -30,9 +30,11 @@ same-length c = search needs
 
 returns : tie.Need-returns
 returns c =
-    three-fields _ _ _ _ _ _ _ _ (c .before .before .before .before .before .before .before .before .before .before .put .ensures)
-    (c .before .before .before .before .before .before .put2 .ensures) (c .before .before .put3 .ensures)
-    (c .before .before .before .before .before .before .before .before .before .before .before .before .before .pre .0)
+    let third = c .before .before in
+    let second = third .before .before .before .before in
+    let first = second .before .before .before .before in
+    let room = first .before .before .before .pre .0 in
+    three-fields _ _ _ _ _ _ _ _ (first .put .ensures) (second .put2 .ensures) (third .put3 .ensures) room
 
 pub put-three-spec : {M : Type 1} → statement M
 put-three-spec =
