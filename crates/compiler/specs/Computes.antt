@@ -14,7 +14,9 @@ use Rattle.laws.specs.Sums.{sumTo, sum-eq}
 use Rattle.laws.specs.Lists.{blocks, upto}
 use Rattle.files.specs.Matrix.{Matrix, Accepted, bit}
 use Rattle.walk.specs.Steps.{Below}
-use Rattle.walk.specs.Walk.{Place, found, left, Drawn, hit, miss, Answer, sample, missed, answerOf, drawn}
+use Rattle.walk.specs.Walk.{Place, found, left, Answer, sample, missed, answerOf, drawn}
+use Rattle.walk.specs.declared.Drawn.{Drawn}
+use Rattle.walk.specs.declared.Drawn.the-variants.{Hit as hit, Miss as miss}
 use Rattle.machine.specs.Meaning.{bits, State, exec}
 use Rattle.compiler.specs.Translation.{rowBits, begin, end, liveBefore, column, translation, program}
 use Rattle.compiler.specs.Width.{row-lt}

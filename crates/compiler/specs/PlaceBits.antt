@@ -5,7 +5,9 @@ use mathlib.Core.Logic.{_≢_}
 use native.Mathlib.Nat.{add-zero}
 use native.Mathlib.Numerals.{add-one}
 use native.Mathlib.Omega.{arith}
-use Rattle.walk.specs.Walk.{Place, found, left, Drawn, hit, miss, Answer, sample, missed, answerOf, at, then}
+use Rattle.walk.specs.Walk.{Place, found, left, Answer, sample, missed, answerOf, at, then}
+use Rattle.walk.specs.declared.Drawn.{Drawn}
+use Rattle.walk.specs.declared.Drawn.the-variants.{Hit as hit, Miss as miss}
 
 -- 1 if the two are one
 unfoldable pub same : ℕ → ℕ → ℕ

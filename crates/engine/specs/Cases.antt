@@ -28,7 +28,9 @@ use Rattle.machine.specs.Runs.{startOf, startOn, runOf}
 use Rattle.machine.specs.declared.runs.Run.{Run}
 use Rattle.compiler.specs.Translation.{bitsToWrite, rowBits, begin, split, ifSet, mark, met, marks, keep, end, liveBefore, column, translation, program, compiled, compileOf}
 use Rattle.files.specs.Live.{weight}
-use Rattle.walk.specs.Walk.{Drawn, hit, miss, at, scan, then, walk, drawn, walkOf}
+use Rattle.walk.specs.Walk.{at, scan, then, walk, drawn, walkOf}
+use Rattle.walk.specs.declared.Drawn.{Drawn}
+use Rattle.walk.specs.declared.Drawn.the-variants.{Hit as hit, Miss as miss}
 use Rattle.files.specs.declared.weights.Usage.{Usage}
 use Rattle.files.specs.declared.weights.Usage.the-variants.{Plain}
 

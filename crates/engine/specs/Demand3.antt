@@ -14,7 +14,9 @@ use Rattle.laws.specs.Outcome.{gives, gives-inj}
 use Rattle.files.specs.Matrix.{Matrix, p, total}
 use Rattle.files.specs.Files.{matrixOf}
 use Rattle.files.specs.RoundTrip.{read-accepted, read-write}
-use Rattle.walk.specs.Walk.{sample, Drawn, hit, miss, drawn, answerOf, hits, misses}
+use Rattle.walk.specs.Walk.{sample, drawn, answerOf, hits, misses}
+use Rattle.walk.specs.declared.Drawn.{Drawn}
+use Rattle.walk.specs.declared.Drawn.the-variants.{Hit as hit, Miss as miss}
 use Rattle.walk.specs.Strings.{Bits, strings, count, count-eq}
 use Rattle.walk.specs.Theorems.{hits-row, misses-rest, hit-inside, equal-rows}
 use Rattle.lanes.specs.Slicing.{lanes}

@@ -21,8 +21,8 @@ use Rattle.files.specs.RoundTrip.{packed-bit}
 use Rattle.walk.specs.Strings.{Bits}
 
 -- a string of bits, packed as a matrix row
-unfoldable pub pack : ℕ → List ℕ → List ℕ
-pack n s = packed n (λ i. getD s i 0)
+unfoldable pub packedString : ℕ → List ℕ → List ℕ
+packedString n s = packed n (λ i. getD s i 0)
 
 -- ---- one string: its checks
 pub one-string : (n : ℕ) (bytes : List ℕ) →
@@ -35,7 +35,8 @@ one-string n bytes = rw (one-mul (width n), zero-mul (width n)) (or-false (spare
     or-false true = refl
     or-false false = refl
 
-pub string-sound : (n : ℕ) (bytes : List ℕ) → 1 ≤ n → n ≤ most-columns → width n ≤ length bytes → spare bytes n 0 ≡ false → stringsOf 1 n bytes ≡ gives tt
+pub string-sound : (n : ℕ) (bytes : List ℕ) → 1 ≤ n → n ≤ most-columns → width n ≤ length bytes → spare bytes n 0 ≡ false →
+    stringsOf 1 n bytes ≡ gives tt
 string-sound n bytes a b l s = rw (one-string n bytes, inside most-columns n a b, le-ltb (length bytes) (width n) l, s)
 
 -- ---- the bits of packed bits
@@ -55,13 +56,13 @@ module _ (n : ℕ) (f : ℕ → ℕ) (ok : (i : ℕ) → i < n → f i ≤ 1) wh
 
 -- ---- a packed string is sound, and its bits are the string's
 module _ (n : ℕ) (s : List ℕ) (b : Bits n s) where
-  pub pack-sound : 1 ≤ n → n ≤ most-columns → stringsOf 1 n (pack n s) ≡ gives tt
-  unfolding pack
-  pack-sound = packed-sound n (λ i. getD s i 0) (b .each)
+  pub packedString-sound : 1 ≤ n → n ≤ most-columns → stringsOf 1 n (packedString n s) ≡ gives tt
+  unfolding packedString
+  packedString-sound = packed-sound n (λ i. getD s i 0) (b .each)
 
-  pub pack-bits : upto n (bitOf (pack n s) 0) ≡ s
-  unfolding pack
-  pack-bits =
+  pub packedString-bits : upto n (bitOf (packedString n s) 0) ≡ s
+  unfolding packedString
+  packedString-bits =
       upto-eq n (bitOf (packed n (λ i. getD s i 0)) 0) (λ i. getD s i 0) (string-bit n (λ i. getD s i 0) (b .each)) ∙
       (sym (take-is 0 n s (omega (arith, b .long))) ∙ take-all n s (omega (arith, b .long)))
 

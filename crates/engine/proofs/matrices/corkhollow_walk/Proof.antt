@@ -1,6 +1,7 @@
 -- `engine::corkhollow_walk` meets its contract. Assumes nothing.
 use borrow.Author.Needs.{needs}
-use Rattle.walk.specs.Walk.{Drawn, answerOf, walkOf}
+use Rattle.walk.specs.Walk.{answerOf, walkOf}
+use Rattle.walk.specs.declared.Drawn.{Drawn}
 use Rattle.lanes.specs.Samples.{code}
 use Rattle.engine.specs.Calls.{refused-returned, refused-told, given-returned, given-told}
 use Rattle.engine.proofs.matrices.corkhollow_walk.Statement.{statement}
