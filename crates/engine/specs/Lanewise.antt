@@ -17,7 +17,7 @@ use Rattle.machine.specs.Runs.{Ended, startOf, startOn}
 use Rattle.machine.specs.LaneLaw.{lane, lane-start, mapEnded}
 use Rattle.walk.specs.Walk.{sample, missed, drawn, answerOf}
 use Rattle.lanes.specs.Slicing.{lanes}
-use Rattle.lanes.specs.Samples.{sampleOf, hits, spelled}
+use Rattle.lanes.specs.Samples.{sampleOf, laneHits, spelled}
 use Rattle.compiler.specs.Translation.{translation, program, compiled, rowBits}
 use Rattle.compiler.specs.Computes.{givenBy, carried}
 use Rattle.compiler.specs.Starting.{whole, fresh, start-compiled, start-gives}
@@ -37,7 +37,7 @@ pack-sum (suc k) f = omega (arith, pack-sum k f)
 
 -- the sample that a lane of the output words spells is the one that the lane's bits give
 lane-given : (outputs : List ℕ) (j k : ℕ) → length outputs ≡ 1 + k → sampleOf outputs j ≡ givenBy k (λ o. bitAt (getD outputs o 0) j)
-unfolding sampleOf hits spelled givenBy
+unfolding sampleOf laneHits spelled givenBy
 lane-given outputs j k e =
     let m : length outputs - 1 ≡ k = omega arith in
     let s : sumTo k (λ t. bitAt (getD outputs (t + 1) 0) j * 2 ^ t) ≡ sumTo k (λ t. bitAt (getD outputs (1 + t) 0) j * 2 ^ t) =

@@ -55,7 +55,8 @@ module _ (n : ℕ) (strings : List ℕ) (room : ℕ) where
   slice-gives e h = rw (← e, le-ltb room n h)
 
 -- ---- a word as code packs it, and where string j lies
-pub word-done : (strings : List ℕ) (w i j word : ℕ) → j ≤ lanes → lanes ≤ j → Packed (λ j. bitOf strings (j * w) i) j word → word ≡ wordOf strings w i
+pub word-done : (strings : List ℕ) (w i j word : ℕ) → j ≤ lanes → lanes ≤ j → Packed (λ j. bitOf strings (j * w) i) j word →
+    word ≡ wordOf strings w i
 unfolding wordOf
 word-done strings w i j word a b p = packed-done (λ j. bitOf strings (j * w) i) j lanes word a b p
 

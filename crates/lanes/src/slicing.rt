@@ -44,11 +44,13 @@ fn put_words(strings: &[u8], n: usize, words: &mut [u64])
     }
 }
 
-// Slices 64 strings of `columns` bits, one after another at the front of `strings`, into that many words; or refusal 3, 13 for the strings, 5, then
-// 13 for the words.
+// Slices 64 strings of `columns` bits, one after another at the front of `strings`, into that many words; or refusal 3, 13 for the
+// strings, 5, then 13 for the words.
 pub fn slice(columns: usize, strings: &[u8], words: &mut [u64]) -> Sliced
-    ensures { λ r. ⌜ sliced r ≡ mapped length (sliceOf columns (now (strings .entry)) (length (now (words .entry)))) ⌝ }
-    ensures { λ r. ⌜ now (words .exit) ≡ lay (laid (λ xs. xs) (sliceOf columns (now (strings .entry)) (length (now (words .entry))))) (now (words .entry)) ⌝ }
+    ensures { λ r. ⌜ (
+        let o = sliceOf columns (now (strings .entry)) (length (now (words .entry))) in
+        (sliced r ≡ mapped length o) × (now (words .exit) ≡ lay (laid (λ xs. xs) o) (now (words .entry)))
+        ) ⌝ }
 {
     match check_strings(LANES, columns, strings) {
         Strings::Refused(why) => Sliced::Refused(why),

@@ -41,7 +41,8 @@ loop-again : tie.Need-loop-again Inv-loop μ-loop
 loop-again c = (
   search needs,
   search needs,
-  laid-store _ _ _ _ _ _ _ (omega arith) (search needs) (rw (c .before .before .loop .inv .1) at (c .word .ensures)) (c .before .before .loop .inv .2),
+  let at = c .before .before .loop in
+      laid-store _ _ _ _ _ _ _ (omega arith) (search needs) (rw (at .inv .1) at (c .word .ensures)) (at .inv .2),
 )
 
 same-length : tie.Need-same-length Inv-loop μ-loop

@@ -28,7 +28,8 @@ put-words-requires c κs =
     strings-there _ _ _ sound (c .before .if1 .left)
 
 returns-2 : tie.Need-returns-2
-returns-2 c = ends-refused _ _ _ _ _ (slice-refused _ _ _ _ (rw (c .before .why .given .1) at (c .before .before .before .check-strings .ensures)))
+returns-2 c =
+    ends-refused _ _ _ _ _ (slice-refused _ _ _ _ (rw (c .before .why .given .1) at (c .before .before .before .check-strings .ensures)))
 
 same-length : tie.Need-same-length
 same-length c = search needs
