@@ -1,6 +1,6 @@
 -- 01, "Runs, words, samples": what a lane of the outputs gives, and how samples and signed samples write it. Assumes nothing.
 use Prim.Native.Nat.{ℕ, zero, suc, _+_, _-_, _*_, _%_, _^_, _≤_, _<_}
-use mathlib.Core.Path.{_≡_, refl, _∙_}
+use mathlib.Core.Path.{_≡_, refl, ap, _∙_}
 use mathlib.Core.Bool.{Bool, true, false, cond}
 use mathlib.Core.List.{List}
 use native.Mathlib.Omega.{arith}
@@ -146,6 +146,9 @@ module _ (outputs : List ℕ) (j : ℕ) (hit : Bool) (e : hit ≡ laneHits outpu
   pub signed-hit : (sign s x : ℕ) (z : ℤ) → hit ≡ true → s ≡ bitAt sign j → x ≡ spelled outputs j → z ≡ negatedIf s x →
       z ≡ signedCode (bitAt sign j) (sampleOf outputs j)
   signed-hit sign s x z h es ex ez = rw (← lane-gives x h ex, ← es) ez
+
+  pub signed-miss : (sign : ℕ) → hit ≡ false → pos 32767 ≡ signedCode (bitAt sign j) (sampleOf outputs j)
+  signed-miss sign h = ap (signedCode (bitAt sign j)) (lane-misses h)
 
 -- ---- negation in 16 bits
 -- a number that fits is kept

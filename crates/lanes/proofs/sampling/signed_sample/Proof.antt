@@ -1,7 +1,6 @@
 -- `lanes::signed_sample` meets its contract. Assumes nothing.
 use borrow.Author.Needs.{needs}
-use mathlib.Core.Path.{ap}
-use Rattle.lanes.specs.Samples.{kept, signedCode, signed-hit, lane-misses}
+use Rattle.lanes.specs.Samples.{kept, signed-hit, signed-miss}
 use Rattle.lanes.proofs.sampling.signed_sample.Statement.{statement}
 use Rattle.lanes.proofs.sampling.signed_sample.Tie as tie
 
@@ -27,7 +26,7 @@ returns c =
     (c .negated-if .ensures))
 
 returns-2 : tie.Need-returns-2
-returns-2 c = ap (signedCode _) (lane-misses _ _ _ (c .before .hit .ensures) (c .if1 .left))
+returns-2 c = signed-miss _ _ _ (c .before .hit .ensures) _ (c .if1 .left)
 
 pub signed-sample-spec : {M : Type 1} → statement M
 signed-sample-spec =
