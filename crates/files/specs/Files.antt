@@ -8,13 +8,12 @@ use lib.ListN.{length, getD, take, drop}
 use Rattle.laws.specs.Sums.{any}
 use Rattle.laws.specs.Lay.{blocks, upto}
 use Rattle.laws.specs.Outcome.{Outcome, refused, gives, refuse, _>>_, _>>=_}
-use Rattle.files.specs.Fields.{fieldOf, fieldBytes, width, bitOf, packed, spare}
-use Rattle.files.specs.Matrix.{Matrix, Sizes, bit, total, outside, most-rows, most-columns}
-use Rattle.files.specs.Refusal.{numberOf}
-use Rattle.files.specs.declared.reading.Checked.{Checked}
-use Rattle.files.specs.declared.reading.Checked.the-variants as Checked
-use Rattle.files.specs.declared.writing.Written.{Written}
-use Rattle.files.specs.declared.writing.Written.the-variants as Written
+use Rattle.fields.specs.Refusal.{numberOf}
+use Rattle.fields.specs.Limits.{most-columns, outside}
+use Rattle.fields.specs.Fields.{fieldOf, fieldBytes, width, bitOf, packed, spare}
+use Rattle.files.specs.Matrix.{Matrix, Sizes, bit, total, most-rows}
+use Rattle.files.specs.declared.headers.Checked.{Checked}
+use Rattle.files.specs.declared.headers.Checked.the-variants as Checked
 
 -- the length that a matrix file of m rows and n columns has
 abbrev pub fileLength : ℕ → ℕ → ℕ
@@ -43,7 +42,11 @@ headerOf file = do
 -- the matrix whose rows are packed one after another: row v begins at byte v * width n
 unfoldable pub unpacked : List ℕ → Sizes → Matrix
 unpacked bytes s =
-    record { rows = s .rows; columns = s .columns; entries = blocks (s .rows) (λ v. upto (s .columns) (bitOf bytes (v * width (s .columns)))) }
+    record {
+      rows = s .rows;
+      columns = s .columns;
+      entries = blocks (s .rows) (λ v. upto (s .columns) (bitOf bytes (v * width (s .columns))));
+    }
 
 -- its rows: refusals 5 and 6, or the matrix
 unfoldable pub bodyOf : List ℕ → Sizes → Outcome Matrix
@@ -65,6 +68,18 @@ readOf file room = do
   refuse 13 (ltb room (M .rows * M .columns))
   gives M
 
+-- writing the header of a file of m rows and n columns into a buffer of `room` bytes, where all of that file has room
+unfoldable pub writeHeaderOf : ℕ → ℕ → ℕ → Outcome (List ℕ)
+writeHeaderOf m n room = do
+  refuse 3 (outside most-rows m)
+  refuse 3 (outside most-columns n)
+  refuse 13 (ltb room (fileLength m n))
+  gives (headerBytes m n)
+
+-- the matrix of m rows and n columns whose entries stand row after row
+abbrev pub taken : ℕ → ℕ → List ℕ → Matrix
+taken m n entries = record { rows = m; columns = n; entries = take (m * n) entries }
+
 -- writing m rows and n columns, row after row in `entries`, into a buffer of `room` bytes: the file that is laid down
 unfoldable pub writeOf : ℕ → ℕ → List ℕ → ℕ → Outcome (List ℕ)
 writeOf m n entries room = do
@@ -72,18 +87,14 @@ writeOf m n entries room = do
   refuse 3 (outside most-columns n)
   refuse 13 (ltb (length entries) (m * n))
   refuse 5 (any (m * n) (λ i. ltb 1 (getD entries i 0)))
-  refuse 6 (ltb (2 ^ n) (total (record { rows = m; columns = n; entries = take (m * n) entries })))
+  refuse 6 (ltb (2 ^ n) (total (taken m n entries)))
   refuse 13 (ltb room (fileLength m n))
-  gives (matrixFile (record { rows = m; columns = n; entries = take (m * n) entries }))
+  gives (matrixFile (taken m n entries))
 
--- ---- the answers' cases in 01's numbers and values
+-- ---- the answer's cases in 01's numbers and values
 abbrev pub checked : Checked → Outcome Sizes
 checked (Checked.Refused why) = refused (numberOf why)
 checked (Checked.Matrix m n) = gives (record { rows = m; columns = n })
-
-abbrev pub written : Written → Outcome ℕ
-written (Written.Refused why) = refused (numberOf why)
-written (Written.Length n) = gives n
 
 -- ---- what a header that has passed says: the sizes are in their limits, and the rows are all there and nothing else
 pub record Whole (file : List ℕ) (s : Sizes) : Type 0 where

@@ -4,35 +4,23 @@ use mathlib.Core.Path.{_≡_, refl, sym, ap, _∙_}
 use mathlib.Core.Bool.{false}
 use mathlib.Core.List.{List, [], _∷_, _++_}
 use native.Mathlib.Omega.{arith}
-use borrow.Author.Tests.{le-ltb, eqb-false, ltb-false}
-use lib.Dec.{eqb, ltb}
+use borrow.Author.Tests.{le-ltb, ltb-false}
+use lib.Dec.{ltb}
 use lib.ListN.{length, getD, take, drop, length-drop, take-append-drop}
 use lib.Seq.{getD-drop, getD-take, length-take-le}
 use Rattle.laws.specs.Sums.{any, any-all, any-false}
-use Rattle.laws.specs.Digits.{number, number-shift, number-digit, digit, digit-number}
+use Rattle.laws.specs.Digits.{number, number-shift, number-digit, digit}
 use Rattle.laws.specs.Lay.{blocks, upto, lay, getD-blocks, length-blocks, blocks-each, getD-upto, length-upto, table-ext, take-is, length-lay, take-lay, at-front}
 use Rattle.laws.specs.Outcome.{gives, refuse, _>>_, _>>=_, passed, bound, gives-inj}
-use Rattle.files.specs.Fields.{fieldOf, fieldBytes, width, bitOf, packedBit, bit-le, padded, padded-le, padded-below, padded-above, padded-both, packed, length-packed, spare, spare-none, spare-zero}
-use Rattle.files.specs.Matrix.{Matrix, sizes, Accepted, bit, total, outside, most-rows, most-columns}
-use Rattle.files.specs.Files.{fileLength, headerBytes, matrixFile, headerOf, bodyOf, matrixOf, readOf, writeOf, unpacked}
+use Rattle.fields.specs.Limits.{most-columns, outside, within}
+use Rattle.fields.specs.Fields.{fieldOf, fieldBytes, width, bitOf, packedBit, bit-le, padded, padded-below, padded-above, padded-both}
+use Rattle.fields.specs.Fields.{packed, packed-bit, length-packed, spare, spare-none, spare-zero}
+use Rattle.files.specs.Matrix.{Matrix, sizes, sizesOutside, Accepted, bit, total, most-rows}
+use Rattle.files.specs.Files.{fileLength, headerBytes, matrixFile, headerOf, bodyOf, matrixOf, readOf, taken, writeOf, unpacked}
 use Rattle.files.specs.Matrices.{equal-bits}
-use Rattle.files.specs.Checks.{inside, within, header-gives, header-fields, Read, matrix-read, unpacked-bit, read-room}
-use Rattle.files.specs.Weights.{sum, built, buildOf}
-use Rattle.files.specs.Building.{built-accepted}
-use Rattle.files.specs.declared.weights.Usage.{Usage}
-use Rattle.files.specs.Writing.{taken, cell, length-file, no-entry-above, write-gives}
-
--- ---- packed rows, bit by bit
--- bit i of packed row v: the row's bit below n, and 0 in the spare bits
-pub packed-bit : (n : ℕ) (f : ℕ → ℕ → ℕ) (m v i : ℕ) → ((c : ℕ) → c < n → f v c ≤ 1) → v < m → i < 8 * width n →
-    bitOf (blocks m (λ v. packed n (f v))) (v * width n) i ≡ padded n (f v) i
-unfolding packedBit packed
-packed-bit n f m v i ok h l =
-    let place : 8 * (i / 8) + i % 8 ≡ i = omega arith in
-    ap (λ (x : ℕ). digit 8 x (i % 8))
-    (getD-blocks (width n) (λ v. packed n (f v)) (λ v. length-packed n (f v)) m v (i / 8) 0 h (omega arith) ∙
-    getD-upto (width n) (λ q. number (padded n (f v)) (8 * q) 8) (i / 8) 0 (omega arith)) ∙
-    (digit-number (padded n (f v)) (8 * (i / 8)) 8 (i % 8) (λ j a b. padded-le n (f v) j ok) (omega arith) ∙ ap (padded n (f v)) place)
+use Rattle.files.specs.Sizes.{sizes-inside, cell}
+use Rattle.files.specs.Checks.{header-gives, header-says, Read, matrix-read, unpacked-bit, read-room}
+use Rattle.files.specs.Writing.{length-file, no-entry-above, head-gives, write-rest}
 
 -- ---- a written matrix reads as itself
 -- its entries are bits
@@ -40,11 +28,19 @@ pub accepted-bits : (M : Matrix) → Accepted M → (v c : ℕ) → v < M .rows 
 unfolding bit
 accepted-bits M ok v c h l = ok .bits (v * M .columns + c) (cell v (M .rows) (M .columns) c h l)
 
+-- and its sizes are within their limits
+accepted-sizes : (M : Matrix) → Accepted M → sizesOutside (M .rows) (M .columns) ≡ false
+accepted-sizes M ok =
+    sizes-inside (M .rows) (M .columns)
+    (record { some-rows = ok .some-rows; few-rows = ok .few-rows; some-columns = ok .some-columns; few-columns = ok .few-columns })
+
 module _ (M : Matrix) (ok : Accepted M) where
   rows : List ℕ
   rows = blocks (M .rows) (λ v. packed (M .columns) (bit M v))
 
-  file-fields : (fieldOf (matrixFile M) 0 ≡ fileLength (M .rows) (M .columns)) × (fieldOf (matrixFile M) 2 ≡ 32) × (fieldOf (matrixFile M) 4 ≡ M .rows) × (fieldOf (matrixFile M) 6 ≡ M .columns)
+  file-fields :
+      (fieldOf (matrixFile M) 0 ≡ fileLength (M .rows) (M .columns)) × (fieldOf (matrixFile M) 2 ≡ 32) ×
+      (fieldOf (matrixFile M) 4 ≡ M .rows) × (fieldOf (matrixFile M) 6 ≡ M .columns)
   unfolding fieldOf matrixFile headerBytes
   file-fields = (omega arith, refl, omega arith, omega arith)
 
@@ -74,9 +70,9 @@ module _ (M : Matrix) (ok : Accepted M) where
   header-same : headerOf (matrixFile M) ≡ gives (sizes M)
   header-same =
       let f = file-fields in
-      sym (header-gives (matrixFile M) (fileLength (M .rows) (M .columns)) 32 (M .rows) (M .columns) (sym (f .0)) (sym (f .1)) (sym (f .2)) (sym (f .3))
-      (omega (arith, length-file M)) (omega (arith, length-file M)) refl (inside most-rows (M .rows) (ok .some-rows) (ok .few-rows))
-      (inside most-columns (M .columns) (ok .some-columns) (ok .few-columns)) refl (length-file M))
+      let long = length-file M in
+      sym (header-gives (matrixFile M) (omega arith) (omega (arith, f .0)) (f .1) (M .rows) (M .columns) (sym (f .2)) (sym (f .3))
+      (accepted-sizes M ok) (f .0) (long ∙ sym (f .0)))
 
   body-same : bodyOf (matrixFile M) (sizes M) ≡ gives M
   unfolding bodyOf
@@ -92,7 +88,7 @@ pub read-accepted : (file : List ℕ) (M : Matrix) → matrixOf file ≡ gives M
 unfolding unpacked
 read-accepted file M e =
     let r = matrix-read file M e in
-    let w = r .whole in
+    let w = r .sized in
     let entries : M .entries ≡ blocks (M .rows) (λ v. upto (M .columns) (bitOf (drop 8 file) (v * width (M .columns)))) = ap (λ (X : Matrix). X .entries) (r .is) in
     record {
       some-rows = w .some-rows;
@@ -132,10 +128,11 @@ module _ (file : List ℕ) (bytes : (i : ℕ) → getD file i 0 < 256) (M : Matr
   header-back : headerBytes (M .rows) (M .columns) ≡ take 8 file
   unfolding headerBytes fieldOf upto blocks
   header-back =
-      let f = header-fields file (sizes M) (r .header) in
+      let f = header-says file (sizes M) (r .header) in
       same-bytes (fileLength (M .rows) (M .columns)) (M .rows) (M .columns) (getD file 0 0) (getD file 1 0) (getD file 2 0) (getD file 3 0) (getD file 4 0) (getD file 5 0)
-      (getD file 6 0) (getD file 7 0) (bytes 0) (bytes 2) (bytes 4) (bytes 6) (f .0) (f .1) (f .2) (f .3) ∙
-      sym (take-is 0 8 file (omega (arith, r .whole .long)))
+      (getD file 6 0) (getD file 7 0) (bytes 0) (bytes 2) (bytes 4) (bytes 6)
+      (f .length-is) (f .kind-is) (f .rows-is) (f .columns-is) ∙
+      sym (take-is 0 8 file (omega (arith, r .sized .long)))
 
   -- below n the bits are the matrix's, and the spare bits are 0
   bit-back : (v i : ℕ) → v < M .rows → i < 8 * width (M .columns) → padded (M .columns) (bit M v) i ≡ bitOf (drop 8 file) (v * width (M .columns)) i
@@ -166,7 +163,7 @@ module _ (file : List ℕ) (bytes : (i : ℕ) → getD file i 0 < 256) (M : Matr
   rows-back =
       table-ext 0 (M .rows) (width (M .columns)) (blocks (M .rows) (λ v. packed (M .columns) (bit M v))) (drop 8 file)
       (length-blocks (width (M .columns)) (λ v. packed (M .columns) (bit M v)) (λ v. length-packed (M .columns) (bit M v)) (M .rows))
-      (rw (length-drop 8 file) (omega (arith, r .whole .long)))
+      (rw (length-drop 8 file) (omega (arith, r .sized .long)))
       (λ v q h l.
       getD-blocks (width (M .columns)) (λ v. packed (M .columns) (bit M v)) (λ v. length-packed (M .columns) (bit M v)) (M .rows) v q 0 h l ∙
       (getD-upto (width (M .columns)) (λ q. number (padded (M .columns) (bit M v)) (8 * q) 8) q 0 l ∙ byte-back v q h l))
@@ -198,9 +195,9 @@ read-then-write file entries room M bytes e h =
         any-all (M .rows * M .columns) (λ i. ltb 1 (getD (lay (M .entries) entries) i 0))
         (λ i k. le-ltb 1 (getD (lay (M .entries) entries) i 0) (rw (at-front (M .entries) entries i 0 (omega (arith, ok .whole))) (ok .bits i k))) in
         let sum : ltb (2 ^ M .columns) (total (taken (M .rows) (M .columns) (lay (M .entries) entries))) ≡ false = rw back (le-ltb (2 ^ M .columns) (total M) (ok .sum)) in
-        write-gives (M .rows) (M .columns) (lay (M .entries) entries) room (inside most-rows (M .rows) (ok .some-rows) (ok .few-rows))
-        (inside most-columns (M .columns) (ok .some-columns) (ok .few-columns)) long small sum (omega (arith, matrix-read file M g .whole .long)) ∙
-        ap gives (ap matrixFile back ∙ read-write file bytes M g)
+        write-rest (M .rows) (M .columns) (lay (M .entries) entries) room (accepted-sizes M ok) long small sum ∙
+        (rw (head-gives (M .rows) (M .columns) room (accepted-sizes M ok) (omega (arith, matrix-read file M g .sized .long)))
+        (ap gives (ap matrixFile back ∙ read-write file bytes M g)))
 
 -- A written file is that of the matrix of the entries.
 pub written-is : (m n : ℕ) (entries file : List ℕ) (room : ℕ) → writeOf m n entries room ≡ gives file →
@@ -232,24 +229,3 @@ written-is m n entries file room e =
 pub write-then-read : (m n : ℕ) (entries file : List ℕ) (room space : ℕ) → writeOf m n entries room ≡ gives file → m * n ≤ space →
     readOf file space ≡ gives (taken m n entries)
 write-then-read m n entries file room space e h = read-room file space (taken m n entries) (written-is m n entries file room e) h
-
--- What is built is the file of the matrix of the shares.
-pub built-is : (usage : Usage) (weights : List ℕ) (n room : ℕ) (file : List ℕ) → buildOf usage weights n room ≡ gives file →
-    matrixOf file ≡ gives (built usage weights n)
-unfolding buildOf
-built-is usage weights n room file e =
-    let c1 = passed 3 (outside most-rows (length weights)) _ file e in
-    let c2 = passed 3 (outside most-columns n) _ file (c1 .1) in
-    let c3 = passed 11 (eqb (sum usage weights) 0) _ file (c2 .1) in
-    let c4 = passed 13 (ltb room (fileLength (length weights) n)) _ file (c3 .1) in
-    let r = within most-rows (length weights) (c1 .0) in
-    let c = within most-columns n (c2 .0) in
-    let z : 0 < sum usage weights = omega (arith, eqb-false (sum usage weights) 0 (c3 .0)) in
-    rw (← gives-inj (c4 .1)) (write-read (built usage weights n) (built-accepted usage weights n (r .0) (r .1) (c .0) (c .1) z))
-
--- It reads as that matrix, into any buffer with room for its entries.
-pub build-then-read : (usage : Usage) (weights : List ℕ) (n room : ℕ) (file : List ℕ) (space : ℕ) →
-    buildOf usage weights n room ≡ gives file → length weights * n ≤ space → readOf file space ≡ gives (built usage weights n)
-unfolding built
-build-then-read usage weights n room file space e h =
-    read-room file space (built usage weights n) (built-is usage weights n room file e) h

@@ -6,7 +6,7 @@ use Prim.Native.Nat.{_-_, _*_, _≤_}
 use native.Mathlib.Nat.{le-refl, mul-le-mul}
 use Rattle.laws.specs.Places.{row-end}
 use Rattle.laws.specs.Lay.{Laid, blocks, upto, blocks-none, laid-block, blocks-done, length-upto}
-use Rattle.files.specs.Fields.{bitOf, width}
+use Rattle.fields.specs.Fields.{bitOf, width}
 use Rattle.files.proofs.reading.unpack.Statement.{statement}
 use Rattle.files.proofs.reading.unpack.Tie as tie
 

@@ -4,7 +4,7 @@ use native.Mathlib.Omega.{arith}
 use Prim.Native.Nat.{_+_, _-_, _*_, _≤_}
 use lib.ListN.{getD}
 use Rattle.laws.specs.Digits.{Spelt, spelt-none, spelt-more, spelt-room, spelt-done}
-use Rattle.files.specs.Fields.{padded, padded-le}
+use Rattle.fields.specs.Fields.{padded, padded-le}
 use Rattle.files.proofs.writing.pack_byte.Statement.{statement}
 use Rattle.files.proofs.writing.pack_byte.Tie as tie
 

@@ -5,7 +5,7 @@ use Prim.Native.Nat.{_+_, _-_, _*_, _≤_}
 use lib.ListN.{getD}
 use Rattle.laws.specs.Digits.{number}
 use Rattle.laws.specs.Lay.{Laid, upto, upto-none, laid-store, upto-done}
-use Rattle.files.specs.Fields.{padded, packed, width}
+use Rattle.fields.specs.Fields.{padded, packed, width}
 use Rattle.files.proofs.writing.pack_row.Statement.{statement}
 use Rattle.files.proofs.writing.pack_row.Tie as tie
 

@@ -6,8 +6,8 @@ use Prim.Native.Nat.{ℕ, _+_, _-_, _*_, _≤_}
 use Rattle.laws.specs.Places.{row-end}
 use lib.ListN.{length, getD}
 use Rattle.laws.specs.Lay.{Laid, blocks, blocks-none, laid-block, blocks-done}
-use Rattle.files.specs.Fields.{packed, length-packed, width}
-use Rattle.files.specs.Writing.{cell}
+use Rattle.fields.specs.Fields.{packed, length-packed, width}
+use Rattle.files.specs.Sizes.{cell}
 use Rattle.files.proofs.writing.pack_rows.Statement.{statement}
 use Rattle.files.proofs.writing.pack_rows.Tie as tie
 
