@@ -9,7 +9,7 @@ use Rattle.laws.specs.Places.{lt-or-ge}
 use Rattle.laws.specs.Sums.{sumTo}
 use Rattle.laws.specs.Lay.{blocks}
 use Rattle.laws.specs.Each.{Each, each-blocks}
-use Rattle.files.specs.Live.{weight}
+use Rattle.files.specs.Matrix.{ones-in}
 use Rattle.programs.specs.declared.description.Instruction.{Instruction}
 use Rattle.programs.specs.declared.description.Instruction.the-variants.{Input, Not, And, Or}
 use Rattle.walk.specs.Walk.{Place, at, scan}
@@ -201,9 +201,9 @@ module _ (inputs : List ℕ) (k m : ℕ) where
 
   -- ---- a column
   module _ (n : ℕ) (bit : ℕ → ℕ → ℕ) (roomy : Roomy m n bit) where
-    rows-scanned : (c h : ℕ) (o : Place) (s : State ℕ) → c < n → weight bit m c ≤ 2 * h → Scans k m (2 * h) 0 o s →
-        Scans k m (2 * h) (weight bit m c) (onto o (λ d. scan (λ v. bit v c) m d)) (run inputs (marks k m (λ v. bit v c) m 0) s)
-    unfolding weight
+    rows-scanned : (c h : ℕ) (o : Place) (s : State ℕ) → c < n → ones-in bit m c ≤ 2 * h → Scans k m (2 * h) 0 o s →
+        Scans k m (2 * h) (ones-in bit m c) (onto o (λ d. scan (λ v. bit v c) m d)) (run inputs (marks k m (λ v. bit v c) m 0) s)
+    unfolding ones-in
     rows-scanned c h o s l few here =
         let e : sumTo m (λ v. bit v c) + 0 ≡ sumTo m (λ v. bit v c) = omega arith in
         rw e at (marks-run (2 * h) (λ v. bit v c) m (λ v u. roomy .bits v c u l) o 0 s (omega arith) here)
@@ -217,8 +217,8 @@ module _ (inputs : List ℕ) (k m : ℕ) where
         let g : ℕ = liveBefore bit m (suc c) in
         let before : List Instruction = split k m c h in
         let rows : List Instruction = marks k m (λ v. bit v c) m 0 in
-        rw (run-append inputs (before ++ rows) (keep k m (weight bit m c) g) s, run-append inputs before rows s)
-        (keep-run (weight bit m c) (2 * h) g (onto (doubled (getD inputs c 0) o) (λ d. scan (λ v. bit v c) m d)) (run inputs rows (run inputs before s))
+        rw (run-append inputs (before ++ rows) (keep k m (ones-in bit m c) g) s, run-append inputs before rows s)
+        (keep-run (ones-in bit m c) (2 * h) g (onto (doubled (getD inputs c 0) o) (λ d. scan (λ v. bit v c) m d)) (run inputs rows (run inputs before s))
         (live-next m n bit roomy c l) (live-le bit m (suc c) (roomy .some-rows))
         (rows-scanned c h (doubled (getD inputs c 0) o) (run inputs before s) l (roomy .room c l)
         (split-run c h o s b (live-le bit m c (roomy .some-rows)) here)))

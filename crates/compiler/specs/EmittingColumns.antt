@@ -9,9 +9,9 @@ use lib.Count as Count
 use lib.ListN.{length, length-append}
 use Rattle.laws.specs.Sums.{sumTo, sum-more}
 use Rattle.laws.specs.Lay.{blocks, blocks-more}
-use Rattle.files.specs.Fields.{bitOf}
-use Rattle.files.specs.Matrix.{most-rows, most-columns}
-use Rattle.files.specs.Live.{weight}
+use Rattle.fields.specs.Fields.{bitOf}
+use Rattle.files.specs.Matrix.{most-rows, ones-in}
+use Rattle.fields.specs.Limits.{most-columns}
 use Rattle.programs.specs.declared.description.Instruction.{Instruction}
 use Rattle.compiler.specs.Translation.{rowBits, split, mark, met, marks, keep, column, liveBefore}
 use Rattle.compiler.specs.Width.{row-lt}
@@ -36,7 +36,7 @@ ifMet (suc b) is = is
 
 -- what is counted in a column: its set rows, and the instructions that mark them
 pub record Counted (bit : ℕ → ℕ → ℕ) (m c rows instructions : ℕ) : Type 0 where
-  pub set : rows ≡ weight bit m c
+  pub set : rows ≡ ones-in bit m c
   pub marking : instructions ≡ length (marks (rowBits m) m (λ v. bit v c) m 0)
   pub few : rows ≤ m
   pub fewer : instructions ≤ m * 65
@@ -113,7 +113,7 @@ module _ (k m : ℕ) (bits : ℕ → ℕ) where
 
 pub marked-counted : (bit : ℕ → ℕ → ℕ) (m c v rows instructions : ℕ) → ((v : ℕ) → v < m → bit v c ≤ 1) → v ≤ m → m ≤ v →
     Marked (λ v. bit v c) v rows instructions → Counted bit m c rows instructions
-unfolding weight
+unfolding ones-in
 marked-counted bit m c v rows instructions ok a b s =
     let e : v ≡ m = omega arith in
     let t : Marked (λ v. bit v c) m rows instructions = subst (λ (x : ℕ). Marked (λ v. bit v c) x rows instructions) e s in
@@ -130,7 +130,7 @@ module _ (bit : ℕ → ℕ → ℕ) (m c : ℕ) where
   unfolding liveBefore
   live-first h = record { is = refl; few = h }
 
-  pub live-more : (h w h′ : ℕ) → Live bit m c h → w ≡ weight bit m c → h′ ≡ min (2 * h - w) m → Live bit m (c + 1) h′
+  pub live-more : (h w h′ : ℕ) → Live bit m c h → w ≡ ones-in bit m c → h′ ≡ min (2 * h - w) m → Live bit m (c + 1) h′
   unfolding liveBefore
   live-more h w h′ s e q =
       record {
@@ -142,7 +142,7 @@ module _ (bit : ℕ → ℕ → ℕ) (m c : ℕ) where
   live-after h′ s = rw (add-one c) at (s .is)
 
   -- a column from its pieces
-  module _ (k h w h′ : ℕ) (before : Live bit m c h) (set : w ≡ weight bit m c) (after : Live bit m (c + 1) h′) where
+  module _ (k h w h′ : ℕ) (before : Live bit m c h) (set : w ≡ ones-in bit m c) (after : Live bit m (c + 1) h′) where
     pub column-is : column k m bit c ≡ split k m c h ++ marks k m (λ v. bit v c) m 0 ++ keep k m w h′
     unfolding column
     column-is = rw (set, before .is, live-after h′ after)

@@ -8,8 +8,9 @@ use borrow.Author.Tests.{lt-ltb, le-ltb}
 use lib.ListN.{length, drop, length-append}
 use Rattle.laws.specs.Lay.{blocks, lay, layAt, lay-is, layAt-after}
 use Rattle.laws.specs.Outcome.{refused, gives, mapped, laid, mapped-gives, mapped-refused}
-use Rattle.files.specs.Fields.{width, bit-le}
-use Rattle.files.specs.Matrix.{Accepted, sizes, bit, most-rows, most-columns}
+use Rattle.fields.specs.Fields.{width, bit-le}
+use Rattle.files.specs.Matrix.{Accepted, sizes, bit, most-rows}
+use Rattle.fields.specs.Limits.{most-columns}
 use Rattle.files.specs.Files.{matrixOf, unpacked}
 use Rattle.files.specs.Checks.{unpacked-bit, matrix-read, checked-whole}
 use Rattle.files.specs.RoundTrip.{read-accepted}

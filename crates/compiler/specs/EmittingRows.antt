@@ -6,11 +6,10 @@ use native.Mathlib.Omega.{arith}
 use lib.ListN.{length, length-append}
 use Rattle.laws.specs.Sums.{sum-eq}
 use Rattle.laws.specs.Lay.{blocks, blocks-eq}
-use Rattle.files.specs.Fields.{width}
-use Rattle.files.specs.Matrix.{Matrix, bit}
+use Rattle.fields.specs.Fields.{width}
+use Rattle.files.specs.Matrix.{Matrix, bit, ones-in}
 use Rattle.files.specs.Files.{unpacked}
 use Rattle.files.specs.Checks.{unpacked-bit}
-use Rattle.files.specs.Live.{weight}
 use Rattle.programs.specs.Header.{header-length, programFile}
 use Rattle.programs.specs.declared.description.Program.{Program}
 use Rattle.programs.specs.declared.description.Instruction.{Instruction}
@@ -35,14 +34,14 @@ described k m n count = record { registers = 3 + k + 3 * m; inputs = n; outputs 
 
 -- ---- the program depends on the bits within the sizes alone
 module _ (m n : ℕ) (f g : ℕ → ℕ → ℕ) (same : (v c : ℕ) → v < m → c < n → f v c ≡ g v c) where
-  weight-eq : (c : ℕ) → c < n → weight f m c ≡ weight g m c
-  unfolding weight
-  weight-eq c h = sum-eq m (λ v. f v c) (λ v. g v c) (λ v l. same v c l h)
+  ones-in-eq : (c : ℕ) → c < n → ones-in f m c ≡ ones-in g m c
+  unfolding ones-in
+  ones-in-eq c h = sum-eq m (λ v. f v c) (λ v. g v c) (λ v l. same v c l h)
 
   live-eq : (c : ℕ) → c ≤ n → liveBefore f m c ≡ liveBefore g m c
   unfolding liveBefore
   live-eq zero h = refl
-  live-eq (suc c) h = rw (live-eq c (omega arith), weight-eq c h)
+  live-eq (suc c) h = rw (live-eq c (omega arith), ones-in-eq c h)
 
   marks-eq : (k r j c : ℕ) → r ≤ m → c < n → marks k m (λ v. f v c) r j ≡ marks k m (λ v. g v c) r j
   unfolding marks
@@ -52,7 +51,7 @@ module _ (m n : ℕ) (f g : ℕ → ℕ → ℕ) (same : (v c : ℕ) → v < m �
 
   column-eq : (k c : ℕ) → c < n → column k m f c ≡ column k m g c
   unfolding column
-  column-eq k c h = rw (live-eq c (omega arith), live-eq (suc c) h, weight-eq c h, marks-eq k m 0 c (omega arith) h)
+  column-eq k c h = rw (live-eq c (omega arith), live-eq (suc c) h, ones-in-eq c h, marks-eq k m 0 c (omega arith) h)
 
   pub whole-eq : (k : ℕ) → whole k m n f ≡ whole k m n g
   unfolding whole
@@ -63,7 +62,7 @@ module _ (m n : ℕ) (f g : ℕ → ℕ → ℕ) (same : (v c : ℕ) → v < m �
       record {
         some-rows = r .some-rows;
         bits = ok;
-        room = λ c h. omega (arith, r .room c h, weight-eq c h, live-eq c (omega arith));
+        room = λ c h. omega (arith, r .room c h, ones-in-eq c h, live-eq c (omega arith));
       }
 
 -- ---- its length and its size

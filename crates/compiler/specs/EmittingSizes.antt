@@ -5,7 +5,7 @@ use mathlib.Core.List.{List, _++_}
 use native.Mathlib.Omega.{arith}
 use lib.ListN.{length, length-append}
 use Rattle.laws.specs.Lay.{blocks}
-use Rattle.files.specs.Live.{weight}
+use Rattle.files.specs.Matrix.{ones-in}
 use Rattle.programs.specs.declared.description.Instruction.{Instruction}
 use Rattle.programs.specs.declared.description.Instruction.the-variants.{Or}
 use Rattle.compiler.specs.Translation.{regV, regY, clear, begin, apart, split, ifSet, spell, mark}
@@ -59,7 +59,7 @@ module _ (k m : ℕ) where
   column-bytes bit c =
       let before = split k m c (liveBefore bit m c) in
       let rows = marks k m (λ v. bit v c) m 0 in
-      let after = keep k m (weight bit m c) (liveBefore bit m (suc c)) in
+      let after = keep k m (ones-in bit m c) (liveBefore bit m (suc c)) in
       omega (
         arith,
         size-append (before ++ rows) after,
@@ -68,7 +68,7 @@ module _ (k m : ℕ) where
         length-append before rows,
         split-bytes c (liveBefore bit m c),
         tens-marks (λ v. bit v c) m 0,
-        tens-keep (weight bit m c) (liveBefore bit m (suc c)),
+        tens-keep (ones-in bit m c) (liveBefore bit m (suc c)),
       )
 
   -- ---- the whole

@@ -8,7 +8,7 @@ use native.Mathlib.Omega.{arith}
 use Rattle.laws.specs.Sums.{sumTo}
 use Rattle.laws.specs.Lay.{blocks}
 use Rattle.laws.specs.Each.{Each, each-append, each-blocks}
-use Rattle.files.specs.Live.{weight}
+use Rattle.files.specs.Matrix.{ones-in}
 use Rattle.programs.specs.declared.description.Instruction.{Instruction}
 use Rattle.programs.specs.declared.description.Instruction.the-variants.{Or, Output}
 use Rattle.machine.specs.Accepting.{Fits, Sets, sets-left, sets-right}
@@ -63,14 +63,14 @@ module _ (k m n : ℕ) where
 
   module _ (bit : ℕ → ℕ → ℕ) (r : Roomy m n bit) where
     column-in : (c : ℕ) → c < n → Each In (column k m bit c)
-    unfolding column weight
+    unfolding column ones-in
     column-in c h =
         let a = live-le bit m c (r .some-rows) in
         let b = live-next m n bit r c h in
-        each-append In (split k m c (liveBefore bit m c) ++ marks k m (λ v. bit v c) m 0) (keep k m (weight bit m c) (liveBefore bit m (suc c)))
+        each-append In (split k m c (liveBefore bit m c) ++ marks k m (λ v. bit v c) m 0) (keep k m (ones-in bit m c) (liveBefore bit m (suc c)))
         (each-append In (split k m c (liveBefore bit m c)) (marks k m (λ v. bit v c) m 0) (split-in c (liveBefore bit m c) h a)
         (marks-each k m In (2 * m) (λ v j l. mark-in v j l) (λ v. bit v c) m 0 (λ v l. r .bits v c l h) (omega arith)))
-        (keep-in (weight bit m c) (liveBefore bit m (suc c)) (live-le bit m (suc c) (r .some-rows)) (omega arith))
+        (keep-in (ones-in bit m c) (liveBefore bit m (suc c)) (live-le bit m (suc c) (r .some-rows)) (omega arith))
 
     -- 3 + k + 3m registers, n inputs and 1 + k outputs
     pub in-range : Each In (begin k ++ blocks n (column k m bit) ++ end k)

@@ -8,7 +8,7 @@ use lib.ListN.{length, length-append}
 use lib.Pow.{shr-shr}
 use Rattle.laws.specs.Sums.{sumTo, sum-front, sum-pairs, sum-plus, sum-times, sum-same, sum-eq, sum-mono, sum-le}
 use Rattle.laws.specs.Lay.{blocks, length-blocks}
-use Rattle.files.specs.Live.{weight}
+use Rattle.files.specs.Matrix.{ones-in}
 use Rattle.programs.specs.declared.description.Instruction.{Instruction}
 use Rattle.programs.specs.declared.description.Instruction.the-variants.{Or}
 use Rattle.compiler.specs.Translation.{regV, regY, clear, begin, apart, split, ifSet, spell, mark, met, marks, carry, keep, tell, end, liveBefore, column}
@@ -76,14 +76,14 @@ module _ (k m : ℕ) where
   column-length bit c h =
       let before = split k m c (liveBefore bit m c) in
       let rows = marks k m (λ v. bit v c) m 0 in
-      let after = keep k m (weight bit m c) (liveBefore bit m (suc c)) in
+      let after = keep k m (ones-in bit m c) (liveBefore bit m (suc c)) in
       omega (
         arith,
         length-append (before ++ rows) after,
         length-append before rows,
         split-length c (liveBefore bit m c),
         marks-length (λ v. bit v c) m 0,
-        keep-length (weight bit m c) (liveBefore bit m (suc c)),
+        keep-length (ones-in bit m c) (liveBefore bit m (suc c)),
         live-le bit m c h,
         live-le bit m (suc c) h,
       )

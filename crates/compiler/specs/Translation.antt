@@ -6,9 +6,8 @@ use lib.Dec.{ltb}
 use lib.ListN.{length}
 use Rattle.laws.specs.Lay.{blocks}
 use Rattle.laws.specs.Outcome.{Outcome, gives, refuse, _>>_, _>>=_}
-use Rattle.files.specs.Matrix.{Matrix, bit}
+use Rattle.files.specs.Matrix.{Matrix, bit, ones-in}
 use Rattle.files.specs.Files.{matrixOf}
-use Rattle.files.specs.Live.{weight}
 use Rattle.programs.specs.Header.{programFile}
 use Rattle.programs.specs.declared.description.Program.{Program}
 use Rattle.programs.specs.declared.description.Instruction.{Instruction}
@@ -100,12 +99,12 @@ end k = Output 0 regH ∷ [] ++ blocks k tell
 -- the live count h before column c: 1, and after a column with w ones the smaller of 2h - w and m
 unfoldable pub liveBefore : (ℕ → ℕ → ℕ) → ℕ → ℕ → ℕ
 liveBefore bit m zero = 1
-liveBefore bit m (suc c) = min (2 * liveBefore bit m c - weight bit m c) m
+liveBefore bit m (suc c) = min (2 * liveBefore bit m c - ones-in bit m c) m
 
 -- column c: its distances split, its set rows are met, and what is left of the distances is kept
 unfoldable pub column : ℕ → ℕ → (ℕ → ℕ → ℕ) → ℕ → List Instruction
 column k m bit c =
-    split k m c (liveBefore bit m c) ++ marks k m (λ v. bit v c) m 0 ++ keep k m (weight bit m c) (liveBefore bit m (suc c))
+    split k m c (liveBefore bit m c) ++ marks k m (λ v. bit v c) m 0 ++ keep k m (ones-in bit m c) (liveBefore bit m (suc c))
 
 -- ---- the program of a matrix
 -- its instructions

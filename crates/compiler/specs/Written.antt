@@ -8,7 +8,7 @@ use native.Mathlib.Nat.{eq-or-lt-of-le}
 use native.Mathlib.Omega.{arith}
 use Rattle.laws.specs.Lay.{blocks}
 use Rattle.laws.specs.Each.{Each, each-blocks}
-use Rattle.files.specs.Live.{weight}
+use Rattle.files.specs.Matrix.{ones-in}
 use Rattle.programs.specs.Instructions.{uses}
 use Rattle.programs.specs.declared.description.Instruction.{Instruction}
 use Rattle.programs.specs.declared.description.Instruction.the-variants.{Or}
@@ -128,17 +128,17 @@ module _ (k m : ℕ) where
 
   module _ (n : ℕ) (bit : ℕ → ℕ → ℕ) (roomy : Roomy m n bit) where
     column-ready : (c : ℕ) → c < n → Ready (Held (liveBefore bit m c)) (column k m bit c) (Held (liveBefore bit m (suc c)))
-    unfolding column weight
+    unfolding column ones-in
     column-ready c l =
         let h : ℕ = liveBefore bit m c in
         let g : ℕ = liveBefore bit m (suc c) in
         let met = marks k m (λ v. bit v c) m 0 in
         let next = live-next m n bit roomy c l in
-        ready-append (split k m c h ++ met) (keep k m (weight bit m c) g) (Held h) (Open h (2 * h)) (Held g)
+        ready-append (split k m c h ++ met) (keep k m (ones-in bit m c) g) (Held h) (Open h (2 * h)) (Held g)
         (ready-append (split k m c h) met (Held h) (Open h (2 * h)) (Open h (2 * h)) (split-ready h c)
         (ready-stay (Open h (2 * h)) met
         (marks-each k m (Reading h) (2 * h) (λ v j u. mark-reads h v j u) (λ v. bit v c) m 0 (λ v u. roomy .bits v c u l) (omega arith))))
-        (keep-ready h (weight bit m c) g next)
+        (keep-ready h (ones-in bit m c) g next)
 
     end-reads : Each (λ i. Each (Held 0) (uses i .reads)) (end k)
     unfolding end

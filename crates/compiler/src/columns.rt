@@ -2,8 +2,8 @@
 ghost use Prim.Native.Nat.{_+_, _*_, _≤_, _<_};
 ghost use lib.ListN.{length};
 ghost use Rattle.laws.specs.Lay.{blocks};
-ghost use Rattle.files.specs.Live.{weight};
-ghost use Rattle.files.specs.Matrix.{most-columns};
+ghost use Rattle.files.specs.Matrix.{ones-in};
+ghost use Rattle.fields.specs.Limits.{most-columns};
 ghost use Rattle.compiler.specs.Translation.{column, mark, marks};
 ghost use Rattle.compiler.specs.Room.{Roomy};
 ghost use Rattle.compiler.specs.Emitting.{Emitted, Fit, size};
@@ -13,7 +13,7 @@ use crate::parts::mark;
 use crate::parts::split;
 use crate::sizes::count_marks;
 use crate::sizes::live_after;
-use files::bit;
+use fields::bit;
 
 // The mark of row v, the set row met j-th, if its bit b is set.
 fn mark_if(b: usize, k: usize, m: usize, v: usize, j: usize, out: &mut [u8], at: usize) -> usize
@@ -68,7 +68,7 @@ fn column(
     at: usize,
 ) -> Done
     requires { ⌜ (at + size (column k m (packedRows (now bytes) stride) c) ≤ length (now out)) × Shape k m stride × (c < most-columns) ⌝ }
-    requires { ⌜ Live (packedRows (now bytes) stride) m c h × (weight (packedRows (now bytes) stride) m c ≤ 2 * h) ⌝ }
+    requires { ⌜ Live (packedRows (now bytes) stride) m c h × (ones-in (packedRows (now bytes) stride) m c ≤ 2 * h) ⌝ }
     ensures { λ r. ⌜ Emitted at (column k m (packedRows (now (bytes .entry)) stride) c) (now (out .entry)) (now (out .exit)) (r .at) ⌝ }
     ensures { λ r. ⌜ Live (packedRows (now (bytes .entry)) stride) m (c + 1) (r .live) ⌝ }
 {

@@ -10,8 +10,8 @@ use lib.IntN.{ℤ}
 use lib.ListN.{length, take, getD, replicate, length-replicate}
 use Rattle.laws.specs.Lay.{lay, length-lay, length-upto, at-front, take-lay}
 use Rattle.laws.specs.Outcome.{Outcome, refused, gives, refuse, _>>_, _>>=_, mapped, laid, passed, bound, gives-inj, mapped-gives, mapped-refused, bind-is, bind-after, then-after, laid-mapped}
-use Rattle.files.specs.Fields.{width}
-use Rattle.files.specs.Refusal.{numberOf}
+use Rattle.fields.specs.Fields.{width}
+use Rattle.fields.specs.Refusal.{numberOf}
 use Rattle.programs.specs.Limits.{most-registers, most-inputs, most-outputs}
 use Rattle.programs.specs.Header.{headerOf}
 use Rattle.programs.specs.Reading.{Within, within-means}

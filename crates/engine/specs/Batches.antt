@@ -9,12 +9,12 @@ use Rattle.laws.specs.Words.{bitAt}
 use Rattle.laws.specs.Places.{lt-or-ge}
 use Rattle.laws.specs.Lay.{upto, upto-eq, getD-upto, length-upto}
 use Rattle.laws.specs.Outcome.{gives, mapped, _>>=_, gives-inj}
-use Rattle.files.specs.Fields.{width, bitOf}
+use Rattle.fields.specs.Fields.{width, bitOf}
 use Rattle.files.specs.Matrix.{Matrix}
 use Rattle.files.specs.Files.{matrixOf}
-use Rattle.files.specs.Strings.{stringsOf}
+use Rattle.fields.specs.Strings.{stringsOf}
 use Rattle.files.specs.RoundTrip.{read-accepted}
-use Rattle.files.specs.Checks.{inside}
+use Rattle.fields.specs.Limits.{inside}
 use Rattle.machine.specs.Runs.{Ended, startOf}
 use Rattle.walk.specs.Walk.{Answer, drawn, answerOf, walkOf}
 use Rattle.walk.specs.Theorems.{walk-is}

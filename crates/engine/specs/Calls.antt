@@ -3,8 +3,8 @@ use Prim.Native.Nat.{ℕ}
 use mathlib.Core.Path.{_≡_, sym, ap}
 use mathlib.Core.Bool.{Bool, true, false}
 use Rattle.laws.specs.Outcome.{Outcome, refused, gives, mapped, mapped-gives, mapped-refused}
-use Rattle.files.specs.declared.weights.Usage.{Usage}
-use Rattle.files.specs.declared.weights.Usage.the-variants as Usage
+use Rattle.weights.specs.declared.building.Usage.{Usage}
+use Rattle.weights.specs.declared.building.Usage.the-variants as Usage
 
 -- what is returned: 0, or the refusal's number
 unfoldable pub returned : {A : Type 0} → Outcome A → ℕ

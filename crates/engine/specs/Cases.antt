@@ -11,11 +11,11 @@ use Rattle.laws.specs.Sums.{sumTo, any}
 use Rattle.laws.specs.Digits.{number, digit}
 use Rattle.laws.specs.Lay.{blocks, upto}
 use Rattle.laws.specs.Outcome.{Outcome, refused, gives, mapped, _>>=_}
-use Rattle.files.specs.Fields.{fieldOf, packedBit, padded, packed, spare}
-use Rattle.files.specs.Matrix.{bit, p, total}
+use Rattle.fields.specs.Fields.{fieldOf, packedBit, padded, packed, spare}
+use Rattle.files.specs.Matrix.{bit, p, total, ones-in}
 use Rattle.files.specs.Files.{fileLength, headerBytes, matrixFile, headerOf, unpacked, bodyOf, matrixOf, readOf, writeOf}
-use Rattle.files.specs.Strings.{stringsOf}
-use Rattle.files.specs.Weights.{sum, share, built, buildOf}
+use Rattle.fields.specs.Strings.{stringsOf}
+use Rattle.weights.specs.Weights.{sum, share, built, buildOf}
 use Rattle.programs.specs.declared.description.Program.{Program}
 use Rattle.programs.specs.declared.description.Instruction.{Instruction}
 use Rattle.programs.specs.declared.description.Instruction.the-variants.{Ones, Zero, Input, Not, And, Or, Output}
@@ -27,10 +27,9 @@ use Rattle.machine.specs.Checks.{checkOf, codeOf, instructionOf, also}
 use Rattle.machine.specs.Runs.{startOf, startOn, runOf}
 use Rattle.machine.specs.declared.runs.Run.{Run}
 use Rattle.compiler.specs.Translation.{bitsToWrite, rowBits, begin, split, ifSet, mark, met, marks, keep, end, liveBefore, column, translation, program, compiled, compileOf}
-use Rattle.files.specs.Live.{weight}
 use Rattle.walk.specs.Walk.{Drawn, hit, miss, at, scan, then, walk, drawn, walkOf}
-use Rattle.files.specs.declared.weights.Usage.{Usage}
-use Rattle.files.specs.declared.weights.Usage.the-variants.{Plain}
+use Rattle.weights.specs.declared.building.Usage.{Usage}
+use Rattle.weights.specs.declared.building.Usage.the-variants.{Plain}
 
 -- an operation on what it is given, with room enough for its result, and what it must come to
 pub data Case : Type 0 where
@@ -151,5 +150,5 @@ all-come (c ∷ cs) e =
 
 -- ---- the table holds
 pub cases-hold : All-come cases
-unfolding listed listing cases comes must all-agree agrees same fieldOf packedBit padded packed spare bit p total headerBytes matrixFile headerOf unpacked bodyOf matrixOf readOf writeOf sum share built buildOf stringsOf rowOf at scan then walk drawn walkOf recordBytes instructionBytes decodeOf sizedOf codeBytes programFile programHeaderOf programHeader programNumbers exec checkOf codeOf instructionOf also startOn runOf bitsToWrite rowBits begin split ifSet mark met marks keep end liveBefore column translation program compiled compileOf weight numbersOf sumTo any number digit blocks upto
+unfolding listed listing cases comes must all-agree agrees same fieldOf packedBit padded packed spare bit p total headerBytes matrixFile headerOf unpacked bodyOf matrixOf readOf writeOf sum share built buildOf stringsOf rowOf at scan then walk drawn walkOf recordBytes instructionBytes decodeOf sizedOf codeBytes programFile programHeaderOf programHeader programNumbers exec checkOf codeOf instructionOf also startOn runOf bitsToWrite rowBits begin split ifSet mark met marks keep end liveBefore column translation program compiled compileOf ones-in numbersOf sumTo any number digit blocks upto
 cases-hold = all-come cases refl

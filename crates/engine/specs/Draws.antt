@@ -10,7 +10,7 @@ use Rattle.laws.specs.Lay.{upto}
 use Rattle.laws.specs.Outcome.{Outcome, gives, _>>=_}
 use Rattle.files.specs.Matrix.{Matrix}
 use Rattle.files.specs.Files.{matrixOf}
-use Rattle.files.specs.Strings.{stringsOf}
+use Rattle.fields.specs.Strings.{stringsOf}
 use Rattle.lanes.specs.Slicing.{lanes, slice-gives}
 use Rattle.lanes.specs.Samples.{code, signedCode}
 use Rattle.compiler.specs.Translation.{program, compiled}

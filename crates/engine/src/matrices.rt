@@ -5,16 +5,16 @@ ghost use lib.ListN;
 ghost use Rattle.laws.specs.Lay.{lay};
 ghost use Rattle.laws.specs.Outcome.{laid};
 ghost use Rattle.files.specs.Files.{readOf, writeOf};
-ghost use Rattle.files.specs.Weights.{buildOf};
+ghost use Rattle.weights.specs.Weights.{buildOf};
 ghost use Rattle.walk.specs.Walk.{answerOf, walkOf};
 ghost use Rattle.lanes.specs.Samples.{code};
 ghost use Rattle.engine.specs.Calls.{returned, told, usageOf};
+use fields::Written;
+use fields::number;
 use files::Checked;
-use files::Usage;
-use files::Written;
-use files::number;
 use lanes::MISS;
 use walk::Walked;
+use weights::Usage;
 
 // Reads a matrix file: its entries into `entries`, and its sizes.
 #[no_mangle]
@@ -84,7 +84,7 @@ pub extern "C" fn corkhollow_build(
     ensures { λ r. ⌜ now (file .exit) ≡ lay (laid (λ bytes. bytes) (buildOf (usageOf signed) (now (weights .entry)) columns (ListN.length (now (file .entry))))) (now (file .entry)) ⌝ }
     ensures { λ r. ⌜ now (length .exit) ≡ told ListN.length (buildOf (usageOf signed) (now (weights .entry)) columns (ListN.length (now (file .entry)))) (now (length .entry)) ⌝ }
 {
-    match files::build(weights, columns, usage_of(signed), file) {
+    match weights::build(weights, columns, usage_of(signed), file) {
         Written::Refused(why) => number(why),
         Written::Length(built) => {
             *length = built;

@@ -8,8 +8,8 @@ ghost use Rattle.compiler.specs.Translation.{compileOf};
 ghost use Rattle.machine.specs.Checks.{checkOf};
 ghost use Rattle.machine.specs.Runs.{resumeOf, startOf};
 ghost use Rattle.engine.specs.Calls.{returned, told};
-use files::Written;
-use files::number;
+use fields::Written;
+use fields::number;
 use machine::Ran;
 use programs::Checked;
 

@@ -10,7 +10,7 @@ ghost use Rattle.engine.specs.Calls.{returned};
 ghost use Rattle.drawing.specs.Drawing.{drawOf};
 use drawing::Drawn;
 use drawing::draw;
-use files::number;
+use fields::number;
 use lanes::Sampled;
 use lanes::Sliced;
 

@@ -9,7 +9,7 @@ ghost use Rattle.engine.specs.Calls.{returned};
 ghost use Rattle.drawing.specs.Drawing.{drawSignedOf};
 use drawing::Drawn;
 use drawing::draw_signed;
-use files::number;
+use fields::number;
 use lanes::Sampled;
 
 // Reads the signed samples of 64 lanes off output words, with a sign word.

@@ -18,9 +18,9 @@ use Rattle.laws.specs.Words.{bitAt, pack, bitAt-lt, bitAt-zero, bitAt-pack, pac
 use Rattle.laws.specs.Places.{lt-or-ge, row-end}
 use Rattle.laws.specs.Lay.{lay, upto, length-upto, getD-upto, at-front}
 use Rattle.laws.specs.Outcome.{gives, refuse, _>>_, gives-inj, laid, mapped, mapped-gives, passed, refuse-gives, then-gives}
-use Rattle.files.specs.Fields.{bitOf, packedBit, bit-le, spare, width}
-use Rattle.files.specs.Matrix.{outside, most-columns}
-use Rattle.files.specs.Strings.{stringsOf}
+use Rattle.fields.specs.Fields.{bitOf, packedBit, bit-le, spare, width}
+use Rattle.fields.specs.Limits.{outside, most-columns}
+use Rattle.fields.specs.Strings.{stringsOf}
 use Rattle.programs.specs.Limits.{most-outputs}
 use Rattle.walk.specs.Walk.{Answer, sample, missed}
 use Rattle.lanes.specs.Slicing.{lanes, sliceOf, stringAt, wordOf}

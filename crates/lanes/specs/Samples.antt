@@ -15,8 +15,8 @@ use lib.ListN.{length, getD}
 use Rattle.laws.specs.Words.{bitAt, pack, Packed, packed-more, packed-done}
 use Rattle.laws.specs.Lay.{upto}
 use Rattle.laws.specs.Outcome.{Outcome, refused, gives, refuse, _>>_}
-use Rattle.files.specs.Matrix.{outside}
-use Rattle.files.specs.Refusal.{numberOf}
+use Rattle.fields.specs.Limits.{outside}
+use Rattle.fields.specs.Refusal.{numberOf}
 use Rattle.programs.specs.Limits.{most-outputs}
 use Rattle.walk.specs.Walk.{Answer, sample, missed}
 use Rattle.lanes.specs.Slicing.{lanes}

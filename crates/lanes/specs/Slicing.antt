@@ -10,10 +10,10 @@ use Rattle.laws.specs.Words.{pack, Packed, packed-done}
 use Rattle.laws.specs.Places.{row-end}
 use Rattle.laws.specs.Lay.{upto}
 use Rattle.laws.specs.Outcome.{Outcome, refused, gives, refuse, _>>_, passed}
-use Rattle.files.specs.Fields.{bitOf, width}
-use Rattle.files.specs.Matrix.{outside, most-columns}
-use Rattle.files.specs.Refusal.{numberOf}
-use Rattle.files.specs.Strings.{stringsOf}
+use Rattle.fields.specs.Fields.{bitOf, width}
+use Rattle.fields.specs.Limits.{outside, most-columns}
+use Rattle.fields.specs.Refusal.{numberOf}
+use Rattle.fields.specs.Strings.{stringsOf}
 use Rattle.lanes.specs.declared.slicing.Sliced.{Sliced}
 use Rattle.lanes.specs.declared.slicing.Sliced.the-variants as Sliced
 

@@ -9,7 +9,7 @@ ghost use Rattle.programs.specs.Limits.{most-outputs};
 ghost use Rattle.lanes.specs.Slicing.{lanes};
 ghost use Rattle.lanes.specs.Samples.{code, hits, negatedIf, sampled, sampleOf, samplesOf, signedCode, signedSamplesOf, spelled};
 use crate::slicing::LANES;
-use files::Refusal;
+use fields::Refusal;
 use programs::Program;
 
 // What stands for a miss among samples, and among signed samples.

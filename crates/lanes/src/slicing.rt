@@ -4,12 +4,12 @@ ghost use Prim.Native.Nat.{_*_, _/_, _≤_, _<_};
 ghost use lib.ListN.{length};
 ghost use Rattle.laws.specs.Lay.{lay, layAt, upto};
 ghost use Rattle.laws.specs.Outcome.{laid, mapped};
-ghost use Rattle.files.specs.Fields.{width};
+ghost use Rattle.fields.specs.Fields.{width};
 ghost use Rattle.lanes.specs.Slicing.{lanes, sliceOf, sliced, wordOf};
-use files::Refusal;
-use files::Strings;
-use files::check_strings;
-use files::width;
+use fields::Refusal;
+use fields::Strings;
+use fields::check_strings;
+use fields::width;
 
 // Strings that are sliced, and samples that are read, at a time: one to each bit of a word.
 pub const LANES: usize = 64;

@@ -9,8 +9,9 @@ use lib.Dec.{eqb, ltb}
 use lib.ListN.{length, getD, take}
 use lib.Seq.{getD-take, length-take-le}
 use Rattle.laws.specs.Outcome.{Outcome, refused, gives, refuse, _>>_, passed, bound, mapped, mapped-gives, gives-inj}
-use Rattle.files.specs.Fields.{fieldOf, field-small}
-use Rattle.files.specs.Matrix.{Sizes, outside, most-rows, most-columns}
+use Rattle.fields.specs.Fields.{fieldOf, field-small}
+use Rattle.files.specs.Matrix.{Sizes, most-rows}
+use Rattle.fields.specs.Limits.{outside, most-columns}
 use Rattle.files.specs.Files.{fileLength, headerOf, matrixOf}
 use Rattle.programs.specs.Instructions.{lengthOf}
 use Rattle.programs.specs.declared.description.Instruction.{Instruction}

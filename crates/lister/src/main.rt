@@ -1,7 +1,7 @@
 // Reads a matrix file on standard input and lists the program that it compiles to (01, "Checked by hand").
 mod lines;
 
-use files::Written;
+use fields::Written;
 use libc::STDIN_FILENO;
 use lines::print_header;
 use lines::print_line;

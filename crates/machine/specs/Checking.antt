@@ -14,7 +14,7 @@ use lib.Seq.{drop-drop, getD-set-same, getD-set-other}
 use Rattle.laws.specs.Tests.{both}
 use Rattle.laws.specs.Sums.{any}
 use Rattle.laws.specs.Outcome.{Outcome, refused, gives, refuse, _>>_, _>>=_, mapped, passed, bound, gives-inj}
-use Rattle.files.specs.Fields.{fieldOf}
+use Rattle.fields.specs.Fields.{fieldOf}
 use Rattle.programs.specs.Limits.{most-registers, most-inputs, most-outputs, within, unwritten, unset}
 use Rattle.programs.specs.Instructions.{uses, lengthOf, ofKind, sizedOf, decodeOf, decodeAt}
 use Rattle.programs.specs.Header.{header-length, headerOf}

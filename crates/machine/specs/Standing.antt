@@ -8,7 +8,7 @@ use native.Mathlib.Omega.{arith}
 use lib.ListN.{length, drop, length-drop}
 use lib.Seq.{drop-drop}
 use Rattle.laws.specs.Outcome.{Outcome, refused, gives, gives-inj}
-use Rattle.files.specs.Fields.{fieldOf}
+use Rattle.fields.specs.Fields.{fieldOf}
 use Rattle.programs.specs.Instructions.{kindOf, lengthOf, ofKind, decodeOf}
 use Rattle.programs.specs.Inverse.{field-drop, length-some, decode-reads, named-kind}
 use Rattle.programs.specs.declared.description.Instruction.{Instruction}

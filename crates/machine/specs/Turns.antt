@@ -10,7 +10,7 @@ use lib.Dec.{eqb}
 use lib.ListN.{length, getD, set, take, drop, replicate, length-set, length-replicate, replicate-append-replicate}
 use lib.Seq.{drop-drop, take-all, take-suc-set}
 use Rattle.laws.specs.Outcome.{Outcome, refused, gives}
-use Rattle.files.specs.Fields.{fieldOf}
+use Rattle.fields.specs.Fields.{fieldOf}
 use Rattle.programs.specs.Instructions.{lengthOf, decodeOf}
 use Rattle.programs.specs.Header.{header-length}
 use Rattle.programs.specs.declared.description.Instruction.{Instruction}

@@ -15,7 +15,7 @@ use crate::steps::Left;
 use crate::steps::field_at;
 use crate::steps::lesser;
 use crate::steps::wide_at;
-use files::Refusal;
+use fields::Refusal;
 use programs::Checked;
 use programs::Decoded;
 use programs::Instruction;

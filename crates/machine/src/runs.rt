@@ -15,7 +15,7 @@ use crate::checking::check;
 use crate::steps::field_at;
 use crate::steps::lesser;
 use crate::steps::run_from;
-use files::Refusal;
+use fields::Refusal;
 use programs::Checked;
 use programs::Program;
 

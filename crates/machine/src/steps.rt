@@ -3,7 +3,7 @@ ghost use mathlib.Core.Path.{_≡_};
 ghost use mathlib.Core.Bool.{true};
 ghost use Prim.Native.Nat.{_+_, _*_, _≤_, _<_, min};
 ghost use lib.ListN.{drop, length};
-ghost use Rattle.files.specs.Fields.{fieldOf};
+ghost use Rattle.fields.specs.Fields.{fieldOf};
 ghost use Rattle.machine.specs.Standing.{Formed, Four, Gate, Known, Ready, Standing};
 ghost use Rattle.machine.specs.Turns.{Along, andWords, Carried, Does, orWords};
 use programs::Instruction;

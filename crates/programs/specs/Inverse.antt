@@ -12,7 +12,7 @@ use lib.ListN.{length, getD, take, drop, length-append, length-drop}
 use lib.Seq.{getD-drop, drop-cons, take-at}
 use Rattle.laws.specs.Lay.{lay, layAt, drop-laid, laid-back}
 use Rattle.laws.specs.Outcome.{Outcome, gives, laid, passed, bound, gives-inj, no-result}
-use Rattle.files.specs.Fields.{fieldOf, field-small}
+use Rattle.fields.specs.Fields.{fieldOf, field-small}
 use Rattle.programs.specs.Limits.{within}
 use Rattle.programs.specs.Records.{recordBytes}
 use Rattle.programs.specs.Reading.{length-instruction, encode-gives, header-long, header-read, write-header-gives}

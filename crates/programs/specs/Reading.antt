@@ -11,7 +11,7 @@ use lib.Seq.{take-all}
 use Rattle.laws.specs.Tests.{both}
 use Rattle.laws.specs.Lay.{layAt, layAt-nothing}
 use Rattle.laws.specs.Outcome.{Outcome, refused, gives, mapped, laid, _>>_, _>>=_}
-use Rattle.files.specs.Fields.{fieldOf}
+use Rattle.fields.specs.Fields.{fieldOf}
 use Rattle.programs.specs.Limits.{most-registers, most-inputs, most-outputs, most-instructions, among, within}
 use Rattle.programs.specs.Records.{recordBytes}
 use Rattle.programs.specs.Instructions.{ofKind, sizedOf, lengthOf, instructionBytes, encodeOf, decodeOf, decodeAt}

@@ -5,7 +5,7 @@ use mathlib.Core.List.{List, [], _∷_, _++_}
 use native.Mathlib.Omega.{arith}
 use lib.ListN.{length}
 use Rattle.laws.specs.Lay.{layAt, length-layAt, Laid, laid-none, laid-after}
-use Rattle.files.specs.Fields.{fieldBytes}
+use Rattle.fields.specs.Fields.{fieldBytes}
 
 -- the bytes of a record's fields
 unfoldable pub recordBytes : List ℕ → List ℕ

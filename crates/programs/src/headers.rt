@@ -5,15 +5,15 @@ ghost use Prim.Native.Nat.{_≤_};
 ghost use lib.ListN.{length};
 ghost use Rattle.laws.specs.Lay.{lay, layAt};
 ghost use Rattle.laws.specs.Outcome.{laid, mapped};
-ghost use Rattle.files.specs.Files.{written};
+ghost use Rattle.fields.specs.Refusal.{written};
 ghost use Rattle.programs.specs.Limits.{within};
 ghost use Rattle.programs.specs.Header.{checked, header-length, headerBytes, headerOf, writeHeaderOf};
 use crate::description::Program;
-use crate::fields::put;
-use crate::fields::put_five;
-use files::Refusal;
-use files::Written;
-use files::field;
+use crate::storing::put;
+use crate::storing::put_five;
+use fields::Refusal;
+use fields::Written;
+use fields::field;
 
 // A refusal, or a program's header.
 pub enum Checked {

@@ -1,10 +1,10 @@
 // The fields of an answer: each is printed with a space before it, but for the first, 0 or the number of a refusal.
-use crate::fields::least;
-use crate::fields::wide;
 use crate::hashes::EMPTY;
 use crate::hashes::with_bytes;
 use crate::hashes::with_words;
-use files::Refusal;
+use crate::pieces::least;
+use crate::pieces::wide;
+use fields::Refusal;
 use libc::STDOUT_FILENO;
 
 // What fills bytes, samples and words before they are lent.
@@ -20,7 +20,7 @@ pub(crate) fn begin() {
 }
 
 pub(crate) fn refuse(why: Refusal) {
-    io::print_hex(STDOUT_FILENO, files::number(why) as u64, 1);
+    io::print_hex(STDOUT_FILENO, fields::number(why) as u64, 1);
 }
 
 pub(crate) fn end_line() {

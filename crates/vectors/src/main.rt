@@ -2,17 +2,17 @@
 // reference/README.md says. Both what is given and what must be printed are made by the reference.
 mod answers;
 mod compiled;
-mod fields;
 mod hashes;
 mod matrices;
+mod pieces;
 mod runs;
 mod words;
 
 use answers::end_line;
-use fields::field;
-use fields::piece_end;
-use fields::size;
 use libc::STDIN_FILENO;
+use pieces::field;
+use pieces::piece_end;
+use pieces::size;
 
 // Bytes of the longest program, with some to spare.
 const PROGRAM: usize = 1_310_800;

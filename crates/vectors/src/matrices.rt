@@ -5,15 +5,15 @@ use crate::answers::print_laid;
 use crate::answers::print_size;
 use crate::answers::refuse;
 use crate::answers::see_bytes;
-use crate::fields::field;
-use crate::fields::least;
-use crate::fields::size;
-use crate::fields::take_bytes;
-use crate::fields::take_shorts;
+use crate::pieces::field;
+use crate::pieces::least;
+use crate::pieces::size;
+use crate::pieces::take_bytes;
+use crate::pieces::take_shorts;
+use fields::Written;
 use files::Checked;
-use files::Usage;
-use files::Written;
 use walk::Walked;
+use weights::Usage;
 
 // Room for the bytes that a line gives, or that are lent for a file.
 pub(crate) const BYTES: usize = 4160;
@@ -23,7 +23,7 @@ const ENTRIES: usize = 16448;
 
 // m × n of a matrix.
 fn product(m: usize, n: usize) -> usize {
-    least(m, files::ROWS) * least(n, files::COLUMNS)
+    least(m, files::ROWS) * least(n, fields::COLUMNS)
 }
 
 fn print_read(answer: Checked, entries: &[u8; ENTRIES]) {
@@ -99,7 +99,7 @@ pub(crate) fn build_case(line: &[u8]) {
     let signed = usage(size(field(line, 3)));
     let mut file = [FILL; BYTES];
     let lent = least(size(field(line, 4)), BYTES);
-    let answer = files::build(&weights[..n], columns, signed, &mut file[0..lent]);
+    let answer = weights::build(&weights[..n], columns, signed, &mut file[0..lent]);
     print_matrix(answer, &file);
 }
 

@@ -11,16 +11,16 @@ use crate::answers::print_size;
 use crate::answers::print_words;
 use crate::answers::refuse;
 use crate::answers::see_words;
-use crate::fields::field;
-use crate::fields::least;
-use crate::fields::short;
-use crate::fields::size;
-use crate::fields::take_bytes;
-use crate::fields::take_words;
 use crate::hashes::EMPTY;
 use crate::hashes::with_number;
 use crate::hashes::with_words;
 use crate::matrices::BYTES;
+use crate::pieces::field;
+use crate::pieces::least;
+use crate::pieces::short;
+use crate::pieces::size;
+use crate::pieces::take_bytes;
+use crate::pieces::take_words;
 use machine::Ran;
 use machine::Run;
 use machine::State;
@@ -54,11 +54,11 @@ pub(crate) fn check_case(line: &[u8]) {
 
 // As many registers as the header of an accepted program names, and as many outputs.
 fn registers_of(program: &[u8]) -> usize {
-    files::field(program, 4)
+    fields::field(program, 4)
 }
 
 fn outputs_of(program: &[u8]) -> usize {
-    files::field(program, 8)
+    fields::field(program, 8)
 }
 
 // A run's position, a count, and whether it finished.

@@ -8,7 +8,8 @@ use native.Mathlib.Omega.{arith}
 use lib.Dec.{eqb}
 use Rattle.laws.specs.Sums.{sumTo, sum-front, sum-pairs, sum-plus, sum-same}
 use Rattle.laws.specs.Digits.{number}
-use Rattle.files.specs.Live.{weight, total-from, total-step, go-on}
+use Rattle.files.specs.Matrix.{ones-in}
+use Rattle.files.specs.Live.{total-from, total-step, go-on}
 use Rattle.walk.specs.Walk.{Drawn, hit, miss, Place, found, left, at, scan, then, walk, hits, misses}
 use Rattle.walk.specs.Strings.{strings, strings-many, over, over-same, over-strings, one-if}
 
@@ -64,10 +65,10 @@ module _ (bit : ℕ → ℕ → ℕ) (m : ℕ) (f : ℕ → ℕ) (missed : ℕ) 
       (λ d. over-strings k (λ s. weigh f missed (walk bit m c d s)) ∙ rw (first-bit k c d 0, first-bit k c d 1))) ∙
       sum-pairs h (λ d. after k c (scan (λ v. bit v c) m d))
 
-  step : (k c h s x : ℕ) → ((v : ℕ) → v < m → bit v c ≤ 1) → weight bit m c + x ≡ 2 * h →
+  step : (k c h s x : ℕ) → ((v : ℕ) → v < m → bit v c ≤ 1) → ones-in bit m c + x ≡ 2 * h →
       sumTo x (λ d. over (strings k) (λ l. weigh f missed (walk bit m (suc c) d l))) ≡ sumTo m (λ v. number (bit v) (suc c) k * f v) + s * missed →
       sumTo h (λ d. over (strings (suc k)) (λ l. weigh f missed (walk bit m c d l))) ≡ sumTo m (λ v. number (bit v) c (suc k) * f v) + s * missed
-  unfolding number weight after
+  unfolding number ones-in after
   step k c h s x ok e ih =
       first-column k c h ∙
       rw (← e) (omega (
@@ -91,7 +92,7 @@ module _ (bit : ℕ → ℕ → ℕ) (m : ℕ) (f : ℕ → ℕ) (missed : ℕ) 
         ap (λ (y : ℕ). y * missed) eq,
       )
   walks (suc k) c h s ok e =
-      let x = go-on (weight bit m c) h (total-from bit m (suc c) k) k s (omega (arith, total-step bit m c k)) in
+      let x = go-on (ones-in bit m c) h (total-from bit m (suc c) k) k s (omega (arith, total-step bit m c k)) in
       step k c h s (x .0) (λ v l. ok v c l (omega arith) (omega arith)) (x .1)
       (walks k (suc c) (x .0) s (λ v i l a b. ok v i l (omega arith) (omega arith)) (x .2))
 

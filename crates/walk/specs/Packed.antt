@@ -13,11 +13,10 @@ use Rattle.laws.specs.Sums.{any}
 use Rattle.laws.specs.Digits.{digit, number-shift}
 use Rattle.laws.specs.Lay.{blocks, upto, upto-eq, take-is}
 use Rattle.laws.specs.Outcome.{refuse, gives, _>>_}
-use Rattle.files.specs.Fields.{width, packedBit, bitOf, packed, padded, padded-below, padded-above, length-packed, spare, spare-none}
-use Rattle.files.specs.Matrix.{outside, most-columns}
-use Rattle.files.specs.Checks.{inside}
-use Rattle.files.specs.Strings.{stringsOf}
-use Rattle.files.specs.RoundTrip.{packed-bit}
+use Rattle.fields.specs.Fields.{width, packedBit, bitOf, packed, padded, padded-below, padded-above, length-packed, spare, spare-none}
+use Rattle.fields.specs.Limits.{outside, most-columns, inside}
+use Rattle.fields.specs.Strings.{stringsOf}
+use Rattle.fields.specs.Fields.{packed-bit}
 use Rattle.walk.specs.Strings.{Bits}
 
 -- a string of bits, packed as a matrix row

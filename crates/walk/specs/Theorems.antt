@@ -11,12 +11,12 @@ use lib.ListN.{length}
 use Rattle.laws.specs.Sums.{sumTo}
 use Rattle.laws.specs.Lay.{upto, length-upto, upto-eq}
 use Rattle.laws.specs.Outcome.{Outcome, refused, gives, _>>_, gives-inj, no-result}
-use Rattle.files.specs.Fields.{width, bitOf}
+use Rattle.fields.specs.Fields.{width, bitOf}
 use Rattle.files.specs.Matrix.{Matrix, Accepted, bit, p, total}
 use Rattle.files.specs.Files.{matrixOf}
 use Rattle.files.specs.Live.{total-from}
 use Rattle.files.specs.RoundTrip.{accepted-bits, read-accepted}
-use Rattle.files.specs.Strings.{stringsOf}
+use Rattle.fields.specs.Strings.{stringsOf}
 use Rattle.walk.specs.Walk.{Drawn, hit, drawn, walkOf, hits, misses}
 use Rattle.walk.specs.Steps.{Inside, walk-inside, On, walk-on}
 use Rattle.walk.specs.Strings.{Bits, strings, over, one-if, count, count-eq}

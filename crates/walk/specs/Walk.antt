@@ -5,11 +5,11 @@ use mathlib.Core.List.{List, [], _∷_}
 use lib.Dec.{eqb}
 use Rattle.laws.specs.Lay.{upto}
 use Rattle.laws.specs.Outcome.{Outcome, refused, gives, _>>_, _>>=_}
-use Rattle.files.specs.Fields.{bitOf}
+use Rattle.fields.specs.Fields.{bitOf}
 use Rattle.files.specs.Matrix.{Matrix, bit}
 use Rattle.files.specs.Files.{matrixOf}
-use Rattle.files.specs.Refusal.{numberOf}
-use Rattle.files.specs.Strings.{stringsOf}
+use Rattle.fields.specs.Refusal.{numberOf}
+use Rattle.fields.specs.Strings.{stringsOf}
 use Rattle.walk.specs.declared.Drawn as code
 use Rattle.walk.specs.declared.Drawn.the-variants as drew
 use Rattle.walk.specs.declared.Walked.{Walked}

@@ -6,11 +6,11 @@ use native.Mathlib.Omega.{arith}
 use lib.ListN.{drop}
 use Rattle.laws.specs.Lay.{upto, length-upto}
 use Rattle.laws.specs.Outcome.{refused, gives, mapped, mapped-gives, mapped-refused}
-use Rattle.files.specs.Fields.{width, bitOf}
+use Rattle.fields.specs.Fields.{width, bitOf}
 use Rattle.files.specs.Matrix.{Sizes, sizes, bit}
 use Rattle.files.specs.Files.{matrixOf, unpacked}
 use Rattle.files.specs.Checks.{matrix-read, unpacked-bit}
-use Rattle.files.specs.Strings.{stringsOf}
+use Rattle.fields.specs.Strings.{stringsOf}
 use Rattle.walk.specs.Walk.{Drawn, walk, drawn, walkOf, answerOf}
 use Rattle.walk.specs.Steps.{walk-eq}
 

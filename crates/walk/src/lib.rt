@@ -6,15 +6,15 @@ ghost use mathlib.Core.Path.{_≡_};
 ghost use Prim.Native.Nat.{_*_, _≤_};
 ghost use Rattle.laws.specs.Lay.{upto};
 ghost use Rattle.laws.specs.Outcome.{mapped};
-ghost use Rattle.files.specs.Fields.{bitOf, width};
+ghost use Rattle.fields.specs.Fields.{bitOf, width};
 ghost use Rattle.walk.specs.Walk.{answerOf, drawnOf, walk, walked, walkOf};
+use fields::Refusal;
+use fields::Strings;
+use fields::bit;
+use fields::check_strings;
+use fields::width;
 use files::Checked;
-use files::Refusal;
-use files::Strings;
-use files::bit;
 use files::check;
-use files::check_strings;
-use files::width;
 
 // A refusal, the row that the walk hits, or a miss.
 pub enum Walked {

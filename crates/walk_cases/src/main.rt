@@ -25,7 +25,7 @@ fn print_walked(answer: Walked) {
     match answer {
         Walked::Refused(why) => {
             io::write_all(STDOUT_FILENO, b" refused ");
-            io::print_decimal(STDOUT_FILENO, files::number(why) as u64);
+            io::print_decimal(STDOUT_FILENO, fields::number(why) as u64);
         }
         Walked::Hit(row) => {
             io::write_all(STDOUT_FILENO, b" ");

@@ -35,8 +35,8 @@ fn print_number(top: usize, bytes: &[u8]) {
 
 // T, the sum of the rows, and a newline, for columns that fill their bytes.
 pub(crate) fn print_total(file: &[u8]) {
-    let rows = files::field(file, 4);
-    let width = files::width(files::field(file, 6));
+    let rows = fields::field(file, 4);
+    let width = fields::width(fields::field(file, 6));
     let mut sum = [0u8; 16];
     let mut carry: usize = 0;
     let used = least(width, 16);
@@ -58,7 +58,7 @@ fn print_newline() {
 // Whether the row that begins at byte `at` has a 1 in its first `columns` columns.
 fn any_one(file: &[u8], at: usize, columns: usize) -> bool {
     for c in 0..columns {
-        if files::bit(file, at, c) == 1 {
+        if fields::bit(file, at, c) == 1 {
             return true;
         }
     }
@@ -67,8 +67,8 @@ fn any_one(file: &[u8], at: usize, columns: usize) -> bool {
 
 // The highest row with a 1 in its first `columns` columns.
 pub(crate) fn highest(file: &[u8], columns: usize) -> usize {
-    let rows = files::field(file, 4);
-    let width = files::width(files::field(file, 6));
+    let rows = fields::field(file, 4);
+    let width = fields::width(fields::field(file, 6));
     let mut found: usize = 0;
     let mut at: usize = 8;
     for v in 0..rows {

@@ -4,7 +4,7 @@ use mathlib.Core.Logic.{⊎-elim}
 use mathlib.Core.Path.{_≡_, ap, _∙_}
 use Prim.Native.Nat.{_+_, _-_, _*_, _≤_, _<_}
 use Rattle.laws.specs.Lay.{upto}
-use Rattle.files.specs.Fields.{bitOf, width}
+use Rattle.fields.specs.Fields.{bitOf, width}
 use Rattle.walk.specs.declared.Drawn.the-variants as Drawn
 use Rattle.walk.specs.Walk as W
 use Rattle.walk.specs.Turns.{Left, Within, start, into, pass, strike, near, after, lost, over, place-fits}

@@ -2,7 +2,7 @@
 use borrow.Author.Needs.{needs}
 use native.Mathlib.Omega.{arith}
 use Prim.Native.Nat.{_-_, _≤_}
-use Rattle.files.specs.Fields.{bit-le}
+use Rattle.fields.specs.Fields.{bit-le}
 use Rattle.compiler.specs.EmittingColumns.{packedRows, row-fits, Marked, marked-none, marked-more, marked-counted, mark-few, ones-few}
 use Rattle.compiler.proofs.sizes.count_marks.Statement.{statement}
 use Rattle.compiler.proofs.sizes.count_marks.Tie as tie

@@ -2,7 +2,7 @@
 use Prim.Native.Nat.{ℕ}
 use borrow.Author.Needs.{needs}
 use lib.ListN.{length}
-use Rattle.files.specs.Weights.{buildOf}
+use Rattle.weights.specs.Weights.{buildOf}
 use Rattle.engine.specs.Calls.{refused-returned, refused-told, given-returned, given-told}
 use Rattle.engine.proofs.matrices.corkhollow_build.Statement.{statement}
 use Rattle.engine.proofs.matrices.corkhollow_build.Tie as tie

@@ -6,7 +6,7 @@ use Prim.Native.Nat.{_-_, _≤_}
 use Rattle.laws.specs.Words.{bitAt}
 use Rattle.laws.specs.Lay.{Laid, upto, upto-none, laid-store, upto-done, lay-is}
 use Rattle.laws.specs.Outcome.{ends-refused, ends-given}
-use Rattle.files.specs.Checks.{inside, below, above}
+use Rattle.fields.specs.Limits.{inside, outside-below, outside-above}
 use Rattle.lanes.specs.Slicing.{lanes}
 use Rattle.programs.specs.Limits.{most-outputs}
 use Rattle.lanes.specs.Samples.{kept, signedCode, sampleOf, lanes-size, lanes-short, lanes-give}
@@ -21,10 +21,10 @@ abbrev μ-loop : tie.MeasureT-loop
 μ-loop outputs sign samples₀ j₀ samples j = lanes - j
 
 returns : tie.Need-returns Inv-loop μ-loop
-returns c = ends-refused _ _ _ _ _ (lanes-size _ _ _ (below most-outputs _ (c .if1 .taken)))
+returns c = ends-refused _ _ _ _ _ (lanes-size _ _ _ (outside-below most-outputs _ (c .if1 .taken)))
 
 returns-2 : tie.Need-returns-2 Inv-loop μ-loop
-returns-2 c = ends-refused _ _ _ _ _ (lanes-size _ _ _ (above most-outputs _ (c .before .if1 .left) (c .if2 .taken)))
+returns-2 c = ends-refused _ _ _ _ _ (lanes-size _ _ _ (outside-above most-outputs _ (c .before .if1 .left) (c .if2 .taken)))
 
 returns-3 : tie.Need-returns-3 Inv-loop μ-loop
 returns-3 c =

@@ -4,7 +4,7 @@ use native.Mathlib.Omega.{arith}
 use mathlib.Core.Path.{_≡_}
 use Prim.Native.Nat.{_-_, _≤_}
 use Rattle.laws.specs.Lay.{Laid, upto, upto-none, laid-store, upto-done}
-use Rattle.files.specs.Fields.{width}
+use Rattle.fields.specs.Fields.{width}
 use Rattle.lanes.specs.Slicing.{wordOf}
 use Rattle.lanes.proofs.slicing.put_words.Statement.{statement}
 use Rattle.lanes.proofs.slicing.put_words.Tie as tie

@@ -4,7 +4,7 @@ use native.Mathlib.Omega.{arith}
 use Prim.Native.Nat.{_-_, _*_, _/_, _≤_}
 use Rattle.laws.specs.Digits.{and-one}
 use Rattle.laws.specs.Words.{Packed, packed-none, packed-more}
-use Rattle.files.specs.Fields.{bitOf, bit-read}
+use Rattle.fields.specs.Fields.{bitOf, bit-read}
 use Rattle.lanes.specs.Slicing.{lanes, word-done, string-in}
 use Rattle.lanes.proofs.slicing.word.Statement.{statement}
 use Rattle.lanes.proofs.slicing.word.Tie as tie

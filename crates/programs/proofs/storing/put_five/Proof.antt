@@ -4,8 +4,8 @@ use Rattle.programs.specs.Records.{field-after}
 use native.Mathlib.Omega.{arith}
 use mathlib.Core.List.{[], _∷_}
 use mathlib.Core.Path.{refl}
-use Rattle.programs.proofs.fields.put_five.Statement.{statement}
-use Rattle.programs.proofs.fields.put_five.Tie as tie
+use Rattle.programs.proofs.storing.put_five.Statement.{statement}
+use Rattle.programs.proofs.storing.put_five.Tie as tie
 
 put-four-requires : tie.Need-put-four-requires
 put-four-requires c κs = search needs

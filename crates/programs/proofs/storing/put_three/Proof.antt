@@ -1,8 +1,8 @@
 -- `programs::put_three` meets its contract: field after field. Assumes nothing.
 use borrow.Author.Needs.{needs}
 use Rattle.programs.specs.Records.{three-fields}
-use Rattle.programs.proofs.fields.put_three.Statement.{statement}
-use Rattle.programs.proofs.fields.put_three.Tie as tie
+use Rattle.programs.proofs.storing.put_three.Statement.{statement}
+use Rattle.programs.proofs.storing.put_three.Tie as tie
 
 cast-put : tie.Need-cast-put
 cast-put c = search needs

@@ -2,9 +2,9 @@
 use borrow.Author.Needs.{needs}
 use native.Mathlib.Omega.{arith}
 use lib.ListN.{length-set}
-use Rattle.files.specs.Fields.{field-laid}
-use Rattle.programs.proofs.fields.put.Statement.{statement}
-use Rattle.programs.proofs.fields.put.Tie as tie
+use Rattle.fields.specs.Fields.{field-laid}
+use Rattle.programs.proofs.storing.put.Statement.{statement}
+use Rattle.programs.proofs.storing.put.Tie as tie
 
 cast-out : tie.Need-cast-out
 cast-out c = search needs

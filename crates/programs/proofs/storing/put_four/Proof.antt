@@ -4,8 +4,8 @@ use Rattle.programs.specs.Records.{field-after}
 use native.Mathlib.Omega.{arith}
 use mathlib.Core.List.{[], _∷_}
 use mathlib.Core.Path.{refl}
-use Rattle.programs.proofs.fields.put_four.Statement.{statement}
-use Rattle.programs.proofs.fields.put_four.Tie as tie
+use Rattle.programs.proofs.storing.put_four.Statement.{statement}
+use Rattle.programs.proofs.storing.put_four.Tie as tie
 
 put-three-requires : tie.Need-put-three-requires
 put-three-requires c κs = search needs

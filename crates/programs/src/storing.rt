@@ -4,7 +4,7 @@ ghost use mathlib.Core.List.{_∷_, []};
 ghost use Prim.Native.Nat.{_+_, _≤_, _<_};
 ghost use lib.ListN.{length};
 ghost use Rattle.laws.specs.Lay.{layAt};
-ghost use Rattle.files.specs.Fields.{fieldBytes};
+ghost use Rattle.fields.specs.Fields.{fieldBytes};
 ghost use Rattle.programs.specs.Records.{recordBytes};
 
 // Stores x as the field at `at`.
