@@ -142,7 +142,10 @@ length-packed n f = length-upto (width n) (λ q. number (padded n f) (8 * q) 8)
 -- no spare bit is set exactly when each of them is 0
 pub spare-none : (bytes : List ℕ) (n at : ℕ) → ((i : ℕ) → n ≤ i → i < 8 * width n → bitOf bytes at i ≡ 0) → spare bytes n at ≡ false
 unfolding spare
-spare-none bytes n at z = rw (eq-eqb (number (bitOf bytes at) n (8 * width n - n)) 0 (number-zero (bitOf bytes at) n (8 * width n - n) (λ i l. z (n + i) (omega arith) (omega arith))))
+spare-none bytes n at z =
+    let none : number (bitOf bytes at) n (8 * width n - n) ≡ 0 =
+    number-zero (bitOf bytes at) n (8 * width n - n) (λ i l. z (n + i) (omega arith) (omega arith)) in
+    rw (eq-eqb (number (bitOf bytes at) n (8 * width n - n)) 0 none)
 
 pub spare-zero : (bytes : List ℕ) (n at : ℕ) → spare bytes n at ≡ false → (i : ℕ) → n ≤ i → i < 8 * width n → bitOf bytes at i ≡ 0
 unfolding spare

@@ -2,7 +2,8 @@
 use Prim.Native.Nat.{ℕ}
 use Rattle.laws.specs.Outcome.{Outcome, refused, gives}
 use Rattle.fields.specs.declared.refusals.Refusal.{Refusal}
-use Rattle.fields.specs.declared.refusals.Refusal.the-variants.{Short, Kind, Size, Length, Bit, Sum, Instruction, Operand, Unwritten, Unset, Weightless, Position, Buffer}
+use Rattle.fields.specs.declared.refusals.Refusal.the-variants.{Short, Kind, Size, Length, Bit, Sum, Instruction}
+use Rattle.fields.specs.declared.refusals.Refusal.the-variants.{Operand, Unwritten, Unset, Weightless, Position, Buffer}
 use Rattle.fields.specs.declared.refusals.Written.{Written}
 use Rattle.fields.specs.declared.refusals.Written.the-variants as Written
 

@@ -16,12 +16,16 @@ use Rattle.fields.specs.Refusal.{numberOf}
 use Rattle.fields.specs.declared.packing.Strings.{Strings}
 use Rattle.fields.specs.declared.packing.Strings.the-variants as Strings
 
+-- whether a spare bit is set behind any of `count` strings of n bits, one after another
+abbrev pub anySpare : ℕ → ℕ → List ℕ → Bool
+anySpare count n bytes = any count (λ v. spare bytes n (v * width n))
+
 -- `count` strings of n bits, one after another: their sizes, that all are there, and their spare bits
 unfoldable pub stringsOf : ℕ → ℕ → List ℕ → Outcome (Unit {0})
 stringsOf count n bytes = do
   refuse 3 (outside most-columns n)
   refuse 13 (ltb (length bytes) (count * width n))
-  refuse 5 (any count (λ v. spare bytes n (v * width n)))
+  refuse 5 (anySpare count n bytes)
 
 -- the answer's cases in 01's numbers
 abbrev pub strung : Strings → Outcome (Unit {0})
@@ -46,10 +50,9 @@ module _ (count n : ℕ) (bytes : List ℕ) where
     strings-short h = rw (a, lt-ltb (length bytes) (count * width n) (div-lt-iff-lt-mul wide .0 h))
 
     -- all are there: what is left is whether a spare bit is set
-    pub strings-whole : count * width n ≤ length bytes → stringsOf count n bytes ≡ refuse 5 (any count (λ v. spare bytes n (v * width n)))
+    pub strings-whole : count * width n ≤ length bytes → stringsOf count n bytes ≡ refuse 5 (anySpare count n bytes)
     unfolding stringsOf
     strings-whole h = rw (a, le-ltb (length bytes) (count * width n) h)
 
-    pub strings-spare : count ≤ length bytes / width n → (b : Bool) → b ≡ any count (λ v. spare bytes n (v * width n)) →
-        refuse 5 b ≡ stringsOf count n bytes
+    pub strings-spare : count ≤ length bytes / width n → (b : Bool) → b ≡ anySpare count n bytes → refuse 5 b ≡ stringsOf count n bytes
     strings-spare h b e = rw e (sym (strings-whole (strings-room h)))

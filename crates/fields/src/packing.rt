@@ -2,9 +2,8 @@
 ghost use mathlib.Core.Path.{_≡_};
 ghost use Prim.Native.Nat.{_*_, _≤_, _<_};
 ghost use lib.ListN.{length};
-ghost use Rattle.laws.specs.Sums.{any};
-ghost use Rattle.fields.specs.Fields.{spare, width};
-ghost use Rattle.fields.specs.Strings.{strung, stringsOf};
+ghost use Rattle.fields.specs.Fields.{width};
+ghost use Rattle.fields.specs.Strings.{anySpare, strung, stringsOf};
 use crate::bits::spare_set;
 use crate::bits::width;
 use crate::limits::COLUMNS;
@@ -20,7 +19,7 @@ pub enum Strings {
 // Whether a spare bit is set in any of `count` packed strings of n bits, one after another.
 fn any_spare(bytes: &[u8], count: usize, n: usize) -> bool
     requires { ⌜ (0 < n) × (n ≤ 65535) × (count * width n ≤ length (now bytes)) ⌝ }
-    ensures { λ r. ⌜ r ≡ any count (λ v. spare (now (bytes .entry)) n (v * width n)) ⌝ }
+    ensures { λ r. ⌜ r ≡ anySpare count n (now (bytes .entry)) ⌝ }
 {
     let w = width(n);
     for v in 0..count {

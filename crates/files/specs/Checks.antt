@@ -7,15 +7,16 @@ use native.Mathlib.Omega.{arith}
 use borrow.Author.Tests.{lt-ltb, le-ltb, eq-eqb, ne-eqb, ltb-false, leb-true, leb-false, eqb-true, not-false}
 use lib.Dec.{eqb, ltb, leb}
 use lib.ListN.{length, take, drop, length-drop}
-use Rattle.laws.specs.Sums.{any, sum-eq}
+use Rattle.laws.specs.Sums.{sum-eq}
 use Rattle.laws.specs.Digits.{number, number-shift}
 use Rattle.laws.specs.Places.{row-end}
-use Rattle.laws.specs.Lay.{upto, rest-is, getD-blocks, getD-upto, length-upto}
+use Rattle.laws.specs.Lay.{rest-is}
 use Rattle.laws.specs.Outcome.{Outcome, refused, gives, refuse, _>>_, _>>=_, passed, bound, mapped, mapped-gives, mapped-refused, gives-inj}
 use Rattle.fields.specs.Limits.{most-columns, inside, within}
-use Rattle.fields.specs.Fields.{fieldOf, width, bitOf, packedBit, spare}
-use Rattle.fields.specs.Strings.{stringsOf, strings-whole}
+use Rattle.fields.specs.Fields.{fieldOf, width, bitOf, packedBit}
+use Rattle.fields.specs.Strings.{anySpare, stringsOf, strings-whole}
 use Rattle.files.specs.Matrix.{Matrix, Sizes, sizes, sizesOutside, bit, p, total, most-rows}
+use Rattle.files.specs.Matrices.{tabled-bit}
 use Rattle.files.specs.Sizes.{sizes-refuse}
 use Rattle.files.specs.Live.{total-from}
 use Rattle.files.specs.Files.{fileLength, headerOf, bodyOf, matrixOf, readOf, unpacked, Whole}
@@ -96,11 +97,8 @@ header-says file s e =
 -- entry by entry, the matrix of packed rows is those rows
 pub unpacked-bit : (bytes : List ℕ) (s : Sizes) (v c : ℕ) → v < s .rows → c < s .columns →
     bit (unpacked bytes s) v c ≡ bitOf bytes (v * width (s .columns)) c
-unfolding bit unpacked
-unpacked-bit bytes s v c h l =
-    getD-blocks (s .columns) (λ v. upto (s .columns) (bitOf bytes (v * width (s .columns)))) (λ v. length-upto (s .columns) (bitOf bytes (v * width (s .columns))))
-    (s .rows) v c 0 h l ∙
-    getD-upto (s .columns) (bitOf bytes (v * width (s .columns))) c 0 l
+unfolding unpacked
+unpacked-bit bytes s = tabled-bit (s .rows) (s .columns) (λ v. bitOf bytes (v * width (s .columns)))
 
 -- T over bits that agree with the matrix
 pub total-is : (M : Matrix) (f : ℕ → ℕ → ℕ) → ((v c : ℕ) → v < M .rows → c < M .columns → bit M v c ≡ f v c) →
@@ -157,7 +155,8 @@ pub file-refused : (file : List ℕ) (n : ℕ) → refused n ≡ headerOf file �
 unfolding matrixOf
 file-refused file n e = rw (← e)
 
-pub file-body : (file : List ℕ) (s : Sizes) (o : Outcome Sizes) → gives s ≡ headerOf file → o ≡ mapped sizes (bodyOf file s) → o ≡ mapped sizes (matrixOf file)
+pub file-body : (file : List ℕ) (s : Sizes) (o : Outcome Sizes) → gives s ≡ headerOf file → o ≡ mapped sizes (bodyOf file s) →
+    o ≡ mapped sizes (matrixOf file)
 unfolding matrixOf
 file-body file s o e q = rw (← e) q
 
@@ -165,7 +164,7 @@ file-body file s o e q = rw (← e) q
 pub record Read (file : List ℕ) (M : Matrix) : Type 0 where
   pub sized : Whole file (sizes M)
   pub header : headerOf file ≡ gives (sizes M)
-  pub no-spare : any (M .rows) (λ v. spare (drop 8 file) (M .columns) (v * width (M .columns))) ≡ false
+  pub no-spare : anySpare (M .rows) (M .columns) (drop 8 file) ≡ false
   pub sum : total M ≤ 2 ^ M .columns
   pub is : M ≡ unpacked (drop 8 file) (sizes M)
 
@@ -177,7 +176,7 @@ matrix-read file M e =
     let c6 = passed 6 _ _ M (c5 .1) in
     read (b .0) (b .1) (c5 .0) (ltb-false _ _ (c6 .0)) (gives-inj (c6 .1))
   where
-    read : (s : Sizes) → headerOf file ≡ gives s → any (s .rows) (λ v. spare (drop 8 file) (s .columns) (v * width (s .columns))) ≡ false →
+    read : (s : Sizes) → headerOf file ≡ gives s → anySpare (s .rows) (s .columns) (drop 8 file) ≡ false →
         total (unpacked (drop 8 file) s) ≤ 2 ^ s .columns → unpacked (drop 8 file) s ≡ M → Read file M
     read s h a t q =
         subst (Read file) q

@@ -6,12 +6,13 @@ use mathlib.Core.List.{List, _++_}
 use lib.Dec.{eqb, ltb}
 use lib.ListN.{length, getD, take, drop}
 use Rattle.laws.specs.Sums.{any}
-use Rattle.laws.specs.Lay.{blocks, upto}
+use Rattle.laws.specs.Lay.{blocks}
 use Rattle.laws.specs.Outcome.{Outcome, refused, gives, refuse, _>>_, _>>=_}
 use Rattle.fields.specs.Refusal.{numberOf}
 use Rattle.fields.specs.Limits.{most-columns, outside}
-use Rattle.fields.specs.Fields.{fieldOf, fieldBytes, width, bitOf, packed, spare}
-use Rattle.files.specs.Matrix.{Matrix, Sizes, bit, total, most-rows}
+use Rattle.fields.specs.Fields.{fieldOf, fieldBytes, width, bitOf, packed}
+use Rattle.fields.specs.Strings.{anySpare}
+use Rattle.files.specs.Matrix.{Matrix, Sizes, tabled, bit, total, most-rows}
 use Rattle.files.specs.declared.headers.Checked.{Checked}
 use Rattle.files.specs.declared.headers.Checked.the-variants as Checked
 
@@ -23,9 +24,13 @@ fileLength m n = 8 + m * width n
 unfoldable pub headerBytes : ℕ → ℕ → List ℕ
 headerBytes m n = fieldBytes (fileLength m n) ++ fieldBytes 32 ++ fieldBytes m ++ fieldBytes n
 
+-- its rows: each packed, one after another
+abbrev pub rowBytes : Matrix → List ℕ
+rowBytes M = blocks (M .rows) (λ v. packed (M .columns) (bit M v))
+
 -- the file of a matrix: the header, then each row
 unfoldable pub matrixFile : Matrix → List ℕ
-matrixFile M = headerBytes (M .rows) (M .columns) ++ blocks (M .rows) (λ v. packed (M .columns) (bit M v))
+matrixFile M = headerBytes (M .rows) (M .columns) ++ rowBytes M
 
 -- a matrix file's header: refusals 1 to 4, or its sizes
 unfoldable pub headerOf : List ℕ → Outcome Sizes
@@ -41,17 +46,12 @@ headerOf file = do
 
 -- the matrix whose rows are packed one after another: row v begins at byte v * width n
 unfoldable pub unpacked : List ℕ → Sizes → Matrix
-unpacked bytes s =
-    record {
-      rows = s .rows;
-      columns = s .columns;
-      entries = blocks (s .rows) (λ v. upto (s .columns) (bitOf bytes (v * width (s .columns))));
-    }
+unpacked bytes s = tabled (s .rows) (s .columns) (λ v. bitOf bytes (v * width (s .columns)))
 
 -- its rows: refusals 5 and 6, or the matrix
 unfoldable pub bodyOf : List ℕ → Sizes → Outcome Matrix
 bodyOf file s = do
-  refuse 5 (any (s .rows) (λ v. spare (drop 8 file) (s .columns) (v * width (s .columns))))
+  refuse 5 (anySpare (s .rows) (s .columns) (drop 8 file))
   refuse 6 (ltb (2 ^ s .columns) (total (unpacked (drop 8 file) s)))
   gives (unpacked (drop 8 file) s)
 

@@ -12,7 +12,8 @@ use lib.Pow.{pow-pos}
 use lib.Bits.{bitAnd}
 use lib.ListN.{getD}
 use Rattle.laws.specs.Sums.{sumTo, sum-eq, sum-le, sum-same, sum-plus, sum-times}
-use Rattle.laws.specs.Digits.{number, digit, and-one}
+use Rattle.laws.specs.Digits.{number, digit}
+use Rattle.laws.specs.Words.{bitAt, bitAt-read}
 use Rattle.fields.specs.Fields.{packedBit}
 use Rattle.files.specs.Matrix.{ones-in}
 
@@ -27,7 +28,7 @@ live bit m c h (suc k) = leb (ones-in bit m c) (2 * h) && live bit m (suc c) (mi
 
 -- bit `shift` of byte first + v * stride: how a column is read
 unfoldable pub strided : List ℕ → ℕ → ℕ → ℕ → ℕ → ℕ
-strided bytes first stride shift v = getD bytes (first + v * stride) 0 / 2 ^ shift % 2
+strided bytes first stride shift v = bitAt (getD bytes (first + v * stride) 0) shift
 
 -- ---- live is T at most 2^n
 -- the total splits off its first column
@@ -117,7 +118,8 @@ same-test false true f g = absurd (g tt)
 same-test false false f g = refl
 
 -- every column has room exactly when the rows sum to at most 2^n, for every m and n
-pub live-is : (bit : ℕ → ℕ → ℕ) (m n : ℕ) → ((v c : ℕ) → v < m → c < n → bit v c ≤ 1) → live bit m 0 1 n ≡ leb (total-from bit m 0 n) (2 ^ n)
+pub live-is : (bit : ℕ → ℕ → ℕ) (m n : ℕ) → ((v c : ℕ) → v < m → c < n → bit v c ≤ 1) →
+    live bit m 0 1 n ≡ leb (total-from bit m 0 n) (2 ^ n)
 live-is bit m n ok =
     same-test (live bit m 0 1 n) (leb (total-from bit m 0 n) (2 ^ n))
     (λ t. le→leb (total-from bit m 0 n) (2 ^ n) (omega (arith, live-fits bit m n 0 1 1 (λ v i l a b. ok v i l (omega arith)) refl t)))
@@ -151,14 +153,15 @@ unfolding Open
 open-first bit m n = rw (sub-zero n)
 
 -- ---- a column, as it is read
-pub strided-read : (bytes : List ℕ) (first stride shift v : ℕ) → bitAnd (getD bytes (first + v * stride) 0 / 2 ^ shift) 1 ≡ strided bytes first stride shift v
+pub strided-read : (bytes : List ℕ) (first stride shift v : ℕ) →
+    bitAnd (getD bytes (first + v * stride) 0 / 2 ^ shift) 1 ≡ strided bytes first stride shift v
 unfolding strided
-strided-read bytes first stride shift v = and-one (getD bytes (first + v * stride) 0 / 2 ^ shift)
+strided-read bytes first stride shift v = bitAt-read (getD bytes (first + v * stride) 0) shift
 
 -- the ones that are read are the column's
 pub strided-ones : (bytes : List ℕ) (per stride m c : ℕ) →
     sumTo m (strided bytes (c / per) stride (per - 1 - c % per)) ≡ ones-in (λ v. packedBit per bytes (v * stride)) m c
-unfolding strided ones-in packedBit digit
+unfolding strided ones-in packedBit digit bitAt
 strided-ones bytes per stride m c =
     sum-eq m (strided bytes (c / per) stride (per - 1 - c % per)) (λ v. packedBit per bytes (v * stride) c)
-    (λ v l. ap (λ (i : ℕ). getD bytes i 0 / 2 ^ (per - 1 - c % per) % 2) (add-comm (c / per) (v * stride)))
+    (λ v l. ap (λ (i : ℕ). bitAt (getD bytes i 0) (per - 1 - c % per)) (add-comm (c / per) (v * stride)))

@@ -6,6 +6,7 @@ use mathlib.Core.List.{List}
 use lib.ListN.{length, getD}
 use Rattle.laws.specs.Sums.{sumTo}
 use Rattle.laws.specs.Digits.{number}
+use Rattle.laws.specs.Lay.{blocks, upto}
 use Rattle.fields.specs.Limits.{most-columns, outside}
 
 -- the limits: m and n each 1 to 128
@@ -27,6 +28,10 @@ pub record Matrix : Type 0 where
 
 abbrev pub sizes : Matrix → Sizes
 sizes M = record { rows = M .rows; columns = M .columns }
+
+-- the matrix of m rows and n columns whose bit in row v, column c is f v c
+abbrev pub tabled : ℕ → ℕ → (ℕ → ℕ → ℕ) → Matrix
+tabled m n f = record { rows = m; columns = n; entries = blocks m (λ v. upto n (f v)) }
 
 -- the bit in row v, column c
 unfoldable pub bit : Matrix → ℕ → ℕ → ℕ

@@ -50,6 +50,10 @@ module _ (m n : ℕ) where
       let s = sizes-within e in
       omega (arith, mul-le-mul {n₁ = m} {m₁ = width n} {n₂ = 128} {m₂ = 16} (s .few-rows) (omega (arith, s .few-columns)))
 
+-- row v behind a header
+pub row-place : (v m n w size : ℕ) → v < m → w ≡ width n → 8 + m * width n ≤ size → 8 + v * w + width n ≤ size
+row-place v m n w size h e l = rw e (omega (arith, row-end {v = v} {m = m} {size = m * width n} (width n) (width n) h refl (omega arith)))
+
 -- place c of row v
 pub cell : (v m n c : ℕ) → v < m → c < n → v * n + c < m * n
 cell v m n c h l = omega (arith, row-end {v = v} {m = m} {size = m * n} n n h refl (omega arith))

@@ -11,12 +11,13 @@ use lib.Seq.{getD-take}
 use Rattle.laws.specs.Sums.{any, any-false}
 use Rattle.laws.specs.Digits.{digit}
 use Rattle.laws.specs.Lay.{Laid, laid-none, laid-after, blocks, blocks-eq, lay, layAt, layAt-after, lay-is, length-blocks}
-use Rattle.laws.specs.Outcome.{Outcome, refused, gives, refuse, _>>_, mapped, laid, passed, mapped-gives, mapped-refused, mapped-then, gives-inj, ends-given}
+use Rattle.laws.specs.Outcome.{Outcome, refused, gives, refuse, _>>_, mapped, laid, passed, gives-inj}
+use Rattle.laws.specs.Outcome.{mapped-gives, mapped-refused, mapped-then, ends-given}
 use Rattle.fields.specs.Limits.{most-columns, outside}
 use Rattle.fields.specs.Fields.{fieldBytes, stored, stored-at, packedBit, packed, packed-eq, width, length-packed}
 use Rattle.files.specs.Matrix.{Matrix, sizesOutside, bit, total, most-rows}
 use Rattle.files.specs.Live.{total-from}
-use Rattle.files.specs.Files.{fileLength, headerBytes, matrixFile, taken, writeHeaderOf, writeOf}
+use Rattle.files.specs.Files.{fileLength, headerBytes, rowBytes, matrixFile, taken, writeHeaderOf, writeOf}
 use Rattle.files.specs.Sizes.{sizes-refuse, cell}
 use Rattle.files.specs.Checks.{total-is, not-above}
 
@@ -135,7 +136,7 @@ length-header m n = refl
 pub length-file : (M : Matrix) → length (matrixFile M) ≡ fileLength (M .rows) (M .columns)
 unfolding matrixFile
 length-file M =
-    length-append (headerBytes (M .rows) (M .columns)) (blocks (M .rows) (λ v. packed (M .columns) (bit M v))) ∙
+    length-append (headerBytes (M .rows) (M .columns)) (rowBytes M) ∙
     omega (
       arith,
       length-header (M .rows) (M .columns),
@@ -149,14 +150,13 @@ pub file-laid : (M : Matrix) (f : ℕ → ℕ → ℕ) (file x1 x2 : List ℕ) �
 unfolding matrixFile
 file-laid M f file x1 x2 h e e1 e2 =
     let head : List ℕ = headerBytes (M .rows) (M .columns) in
-    let body : List ℕ = blocks (M .rows) (λ v. packed (M .columns) (bit M v)) in
     let long : length head ≡ 8 = length-header (M .rows) (M .columns) in
-    let rows : blocks (M .rows) (λ v. packed (M .columns) (f v)) ≡ body =
+    let rows : blocks (M .rows) (λ v. packed (M .columns) (f v)) ≡ rowBytes M =
     blocks-eq (M .rows) (λ v. packed (M .columns) (f v)) (λ v. packed (M .columns) (bit M v))
     (λ v l. packed-eq (M .columns) (f v) (bit M v) (λ c k. e v c l k)) in
     let place : 0 + length head ≡ 8 = omega (arith, long) in
     rw (e2, e1, rows, ← lay-is head file)
-    (rw place at (layAt-after 0 head body file (omega (arith, long))) ∙ lay-is (head ++ body) file)
+    (rw place at (layAt-after 0 head (rowBytes M) file (omega (arith, long))) ∙ lay-is (head ++ rowBytes M) file)
 
 -- ---- the last step of what writes a matrix: its header's refusal, or the rows behind the header
 module _ (M : Matrix) (o : Outcome (List ℕ)) (file : List ℕ)

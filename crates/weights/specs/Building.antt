@@ -10,11 +10,11 @@ use lib.Dec.{eqb, ltb}
 use lib.ListN.{length, getD}
 use Rattle.laws.specs.Sums.{sumTo, sum-eq, sum-mono, sum-times, term-le}
 use Rattle.laws.specs.Digits.{number-shift, number-digit, digit, digit-le}
-use Rattle.laws.specs.Lay.{upto, length-upto, getD-upto, length-blocks, getD-blocks, blocks-each}
 use Rattle.laws.specs.Outcome.{refused, gives, refuse, _>>_, mapped, passed, gives-inj}
 use Rattle.fields.specs.Limits.{outside, most-columns, within}
 use Rattle.files.specs.Matrix.{Accepted, sizesOutside, bit, p, total, most-rows}
 use Rattle.files.specs.Files.{fileLength, matrixFile, matrixOf, readOf, writeHeaderOf}
+use Rattle.files.specs.Matrices.{tabled-whole, tabled-bit, tabled-bits}
 use Rattle.files.specs.Sizes.{sizes-refuse}
 use Rattle.files.specs.Checks.{read-room}
 use Rattle.files.specs.Writing.{with-header}
@@ -53,9 +53,8 @@ module _ (usage : Usage) (weights : List ℕ) (n : ℕ) where
   counted-le v l = term-le (length weights) v (λ v. counted usage v (getD weights v 0)) l
 
   pub built-bit : (v c : ℕ) → v < length weights → c < n → bit (built usage weights n) v c ≡ digit n (row v) c
-  unfolding bit built
-  built-bit v c h l =
-      getD-blocks n (λ v. upto n (digit n (row v))) (λ v. length-upto n (digit n (row v))) (length weights) v c 0 h l ∙ getD-upto n (digit n (row v)) c 0 l
+  unfolding built
+  built-bit = tabled-bit (length weights) n (λ v. digit n (row v))
 
   -- the bits that the division finds
   pub built-quotient : 0 < sum usage weights → (v c : ℕ) → v < length weights → c < n →
@@ -89,7 +88,8 @@ module _ (usage : Usage) (weights : List ℕ) (n : ℕ) where
       let all : sumTo (length weights) row * S ≤ 2 ^ n * S = omega (arith, scaled, ap (λ (x : ℕ). x * 2 ^ n) whole) in
       rw T (le-of-mul-le-mul-right {k = S} all z)
 
-  pub built-accepted : 1 ≤ length weights → length weights ≤ most-rows → 1 ≤ n → n ≤ most-columns → 0 < sum usage weights → Accepted (built usage weights n)
+  pub built-accepted : 1 ≤ length weights → length weights ≤ most-rows → 1 ≤ n → n ≤ most-columns → 0 < sum usage weights →
+      Accepted (built usage weights n)
   unfolding built
   built-accepted a b c d z =
       record {
@@ -97,10 +97,8 @@ module _ (usage : Usage) (weights : List ℕ) (n : ℕ) where
         few-rows = b;
         some-columns = c;
         few-columns = d;
-        whole = length-blocks n (λ v. upto n (digit n (row v))) (λ v. length-upto n (digit n (row v))) (length weights);
-        bits =
-            blocks-each n (λ v. upto n (digit n (row v))) (λ v. length-upto n (digit n (row v))) (λ (x : ℕ). x ≤ 1) (length weights) 0
-            (λ v c h l. rw (getD-upto n (digit n (row v)) c 0 l) (digit-le n (row v) c));
+        whole = tabled-whole (length weights) n (λ v. digit n (row v));
+        bits = tabled-bits (length weights) n (λ v. digit n (row v)) (λ v. digit-le n (row v));
         sum = built-total z;
       }
 

@@ -4,7 +4,8 @@ use mathlib.Core.Path.{_≡_, refl, sym, ap, _∙_, subst}
 use mathlib.Core.Bool.{Bool, true, false}
 use mathlib.Core.Logic.{⊎-elim}
 use native.Mathlib.Omega.{arith}
-use native.Mathlib.Nat.{pow-succ', add-zero, add-suc, eq-or-lt-of-le, le-trans, le-of-mul-le-mul-right, mul-le-mul-right, min-le-left, min-le-right, le-min, div-mul-le-self, le-div-iff-mul-le}
+use native.Mathlib.Nat.{pow-succ', add-zero, add-suc, eq-or-lt-of-le, le-trans, le-of-mul-le-mul-right, mul-le-mul-right}
+use native.Mathlib.Nat.{min-le-left, min-le-right, le-min, div-mul-le-self, le-div-iff-mul-le}
 use native.Mathlib.Numerals.{add-one}
 use borrow.Author.Tests.{le-leb, lt-leb, leb-true, leb-false}
 use lib.Arith.{digits-div}
@@ -81,7 +82,7 @@ module _ (s w : ℕ) where
   pub quotient-share : (n : ℕ) → 0 < s → w ≤ s → number (quotient s w) 0 n ≡ share n w s
   unfolding share
   quotient-share n z h =
-      ⊎-elim (λ (e : w ≡ s). whole e) (λ (l : w < s). part l) (eq-or-lt-of-le h)
+      ⊎-elim (λ (e : w ≡ s). all-of-s e) (λ (l : w < s). part l) (eq-or-lt-of-le h)
     where
       small : number (quotient s w) 0 n < 2 ^ n
       small = number-lt (quotient s w) 0 n (bits n)
@@ -91,8 +92,8 @@ module _ (s w : ℕ) where
           let q : 2 ^ n * w / s ≡ number (quotient s w) 0 n = rw (divided n) (digits-div (number (quotient s w) 0 n) (rest-lt n l)) in
           rw q (omega (arith, small))
 
-      whole : w ≡ s → number (quotient s w) 0 n ≡ min (2 ^ n * w / s) (2 ^ n - 1)
-      whole e =
+      all-of-s : w ≡ s → number (quotient s w) 0 n ≡ min (2 ^ n * w / s) (2 ^ n - 1)
+      all-of-s e =
           let q : 2 ^ n * w / s ≡ 2 ^ n = rw (e, ← add-zero (2 ^ n * s)) (digits-div (2 ^ n) z) in
           let all : 2 ^ n * s ≡ number (quotient s w) 0 n * s + rest-after s w n = ap (λ (x : ℕ). 2 ^ n * x) (sym e) ∙ divided n in
           let high : 2 ^ n * s ≤ suc (number (quotient s w) 0 n) * s = omega (arith, rest-le n h) in
@@ -163,7 +164,8 @@ pub rest-next : (s w t r r′ : ℕ) → r ≡ rest-after s w t → r′ ≡ nex
 unfolding rest-after
 rest-next s w t r r′ e q = rw (add-one t, q, e)
 
-pub kept-is : (left s w t r b x : ℕ) → r ≡ rest-after s w t → b ≡ next-bit s r → x ≡ padded left (λ i. b) t → x ≡ padded left (quotient s w) (0 + t)
+pub kept-is : (left s w t r b x : ℕ) → r ≡ rest-after s w t → b ≡ next-bit s r → x ≡ padded left (λ i. b) t →
+    x ≡ padded left (quotient s w) (0 + t)
 unfolding quotient
 kept-is left s w t r b x e q k =
     let place : 0 + t ≡ t = omega arith in

@@ -7,11 +7,10 @@ use lib.Dec.{eqb, leb, ltb}
 use lib.ListN.{length, getD}
 use Rattle.laws.specs.Sums.{sumTo}
 use Rattle.laws.specs.Digits.{number, digit}
-use Rattle.laws.specs.Lay.{blocks, upto}
 use Rattle.laws.specs.Outcome.{Outcome, gives, refuse, _>>_}
 use Rattle.fields.specs.Fields.{padded}
 use Rattle.fields.specs.Limits.{outside, most-columns}
-use Rattle.files.specs.Matrix.{Matrix, most-rows}
+use Rattle.files.specs.Matrix.{Matrix, tabled, most-rows}
 use Rattle.files.specs.Files.{matrixFile, fileLength}
 use Rattle.weights.specs.declared.building.Usage.{Usage}
 
@@ -30,11 +29,7 @@ share n w s = min (2 ^ n * w / s) (2 ^ n - 1)
 -- the matrix whose row v is the share of weight v
 unfoldable pub built : Usage → List ℕ → ℕ → Matrix
 built usage weights n =
-    record {
-      rows = length weights;
-      columns = n;
-      entries = blocks (length weights) (λ v. upto n (digit n (share n (counted usage v (getD weights v 0)) (sum usage weights))));
-    }
+    tabled (length weights) n (λ v. digit n (share n (counted usage v (getD weights v 0)) (sum usage weights)))
 
 -- building with n columns into a buffer of `room` bytes: the file that is laid down
 unfoldable pub buildOf : Usage → List ℕ → ℕ → ℕ → Outcome (List ℕ)

@@ -10,15 +10,20 @@ width-requires : tie.Need-width-requires
 width-requires c κs = search needs
 
 mul-result : tie.Need-mul-result
-mul-result c = rw (c .width .ensures) (record { fits = omega (arith, file-small (c .before .args .rows) (c .before .args .columns) (c .before .pre)) })
+mul-result c =
+    let s = c .before in
+    rw (c .width .ensures) (record { fits = omega (arith, file-small (s .args .rows) (s .args .columns) (s .pre)) })
 
 add-result : tie.Need-add-result
-add-result c = rw (c .width .ensures) (record { fits = omega (arith, file-small (c .before .args .rows) (c .before .args .columns) (c .before .pre)) })
+add-result c =
+    let s = c .before in
+    rw (c .width .ensures) (record { fits = omega (arith, file-small (s .args .rows) (s .args .columns) (s .pre)) })
 
 returns : tie.Need-returns
 returns c =
-    let s = c .before .args in
-    rw (c .width .ensures) (refl, omega (arith, file-small (s .rows) (s .columns) (c .before .pre)), sizes-within (s .rows) (s .columns) (c .before .pre))
+    let s = c .before in
+    let small = file-small (s .args .rows) (s .args .columns) (s .pre) in
+    rw (c .width .ensures) (refl, omega arith, sizes-within (s .args .rows) (s .args .columns) (s .pre))
 
 pub file-length-spec : {M : Type 1} → statement M
 file-length-spec = tie.close (tie.spec width-requires mul-result add-result returns)

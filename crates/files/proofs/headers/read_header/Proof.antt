@@ -40,7 +40,8 @@ file-length-requires c κs = (cc)
 returns-5 : tie.Need-returns-5
 returns-5 c =
     let at = c .before .before .before .before in
-    header-length _ (omega arith) (omega arith) (omega arith) (at .before .field3 .result) (at .field4 .result) (cc) (cc) (cc) (λ e. omega arith)
+    header-length _ (omega arith) (omega arith) (omega arith) (at .before .field3 .result) (at .field4 .result) (cc) (cc) (cc)
+    (λ e. omega arith)
 
 returns-6 : tie.Need-returns-6
 returns-6 c =

@@ -39,7 +39,10 @@ mul-if1 c = search needs
 
 returns : tie.Need-returns Inv-loop μ-loop
 returns c =
-    open-full _ _ _ _ _ _ _ (c .before .before .loop-test .taken) (c .before .ones .ensures ∙ strided-ones _ _ _ _ _) (c .if1 .taken) (c .before .before .before .loop .inv .2) ∙ live-is _ _ _ (λ v i l k. bit-le _ _ _ _)
+    let turn = c .before .before in
+    open-full _ _ _ _ _ _ _ (turn .loop-test .taken) (c .before .ones .ensures ∙ strided-ones _ _ _ _ _) (c .if1 .taken)
+    (turn .before .loop .inv .2) ∙
+    live-is _ _ _ (λ v i l k. bit-le _ _ _ _)
 
 mul-lesser : tie.Need-mul-lesser Inv-loop μ-loop
 mul-lesser c = search needs
@@ -57,11 +60,15 @@ loop-less : tie.Need-loop-less Inv-loop μ-loop
 loop-less c = search needs
 
 loop-again : tie.Need-loop-again Inv-loop μ-loop
-loop-again c = (
-  search needs,
-  search needs,
-  rw (c .lesser .ensures) (open-next _ _ _ _ _ _ _ (c .before .before .before .loop-test .taken) (c .before .before .ones .ensures ∙ strided-ones _ _ _ _ _) (c .before .if1 .left) (c .before .before .before .before .loop .inv .2)),
-)
+loop-again c =
+    let tried = c .before in
+    let turn = tried .before .before in (
+      search needs,
+      search needs,
+      rw (c .lesser .ensures)
+          (open-next _ _ _ _ _ _ _ (turn .loop-test .taken) (tried .before .ones .ensures ∙ strided-ones _ _ _ _ _) (tried .if1 .left)
+          (turn .before .loop .inv .2)),
+    )
 
 returns-2 : tie.Need-returns-2 Inv-loop μ-loop
 returns-2 c = open-done _ _ _ _ _ _ (c .loop-test .left) (c .before .loop .inv .2) ∙ live-is _ _ _ (λ v i l k. bit-le _ _ _ _)

@@ -41,19 +41,22 @@ returns : tie.Need-returns
 returns c =
     let sound = c .before .before .before in
     let strings = sound .before .before in
-    body-sum _ _ (strings .before .before .before .pre) true (rw (rest-is, sound .enum-told .given .1) at (strings .check-strings .ensures))
+    let pre = strings .before .before .before .pre in
+    body-sum _ _ pre true (rw (rest-is, sound .enum-told .given .1) at (strings .check-strings .ensures))
     (live-sum _ _ _ _ (c .before .before .width .ensures) (rw rest-is at (c .before .fits2 .ensures)) ∙ c .if1 .taken)
 
 returns-2 : tie.Need-returns-2
 returns-2 c =
     let strings = c .before .before .before in
-    body-refused _ _ (strings .before .before .before .pre) _ (rw (rest-is, c .before .why .given .1) at (strings .check-strings .ensures))
+    let pre = strings .before .before .before .pre in
+    body-refused _ _ pre _ (rw (rest-is, c .before .why .given .1) at (strings .check-strings .ensures))
 
 returns-3 : tie.Need-returns-3
 returns-3 c =
     let sound = c .before .before .before in
     let strings = sound .before .before in
-    body-sum _ _ (strings .before .before .before .pre) false (rw (rest-is, sound .enum-told .given .1) at (strings .check-strings .ensures))
+    let pre = strings .before .before .before .pre in
+    body-sum _ _ pre false (rw (rest-is, sound .enum-told .given .1) at (strings .check-strings .ensures))
     (live-sum _ _ _ _ (c .before .before .width .ensures) (rw rest-is at (c .before .fits2 .ensures)) ∙ c .if1 .left)
 
 pub body-spec : {M : Type 1} → statement M

@@ -21,7 +21,9 @@ returns : tie.Need-returns
 returns c = file-refused _ _ (rw (c .before .why .given .1) at (c .before .before .before .read-header .ensures))
 
 returns-2 : tie.Need-returns-2
-returns-2 c = file-body _ _ _ (rw (c .before .before .rows .given .1) at (c .before .before .before .before .read-header .ensures)) (c .body .ensures)
+returns-2 c =
+    let told = c .before .before in
+    file-body _ _ _ (rw (told .rows .given .1) at (told .before .before .read-header .ensures)) (c .body .ensures)
 
 pub check-spec : {M : Type 1} → statement M
 check-spec =

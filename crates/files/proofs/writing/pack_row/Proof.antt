@@ -38,14 +38,18 @@ loop-less : tie.Need-loop-less Inv-loop μ-loop
 loop-less c = search needs
 
 loop-again : tie.Need-loop-again Inv-loop μ-loop
-loop-again c = (search needs, search needs, laid-store _ _ _ _ _ _ _ refl (search needs) (c .pack-byte .ensures) (c .before .before .loop .inv .2))
+loop-again c =
+    let at = c .before .before .loop in
+    (search needs, search needs, laid-store _ _ _ _ _ _ _ refl (search needs) (c .pack-byte .ensures) (at .inv .2))
 
 same-length : tie.Need-same-length Inv-loop μ-loop
 same-length c = c .before .loop .inv .2 .long
 
 returns : tie.Need-returns Inv-loop μ-loop
 unfolding packed
-returns c = upto-done _ _ _ _ _ _ (rw (c .before .loop .inv .1) at (c .before .loop .inv .0)) (rw (c .before .loop .inv .1) at (c .loop-test .left)) (c .before .loop .inv .2)
+returns c =
+    let at = c .before .loop in
+    upto-done _ _ _ _ _ _ (rw (at .inv .1) at (at .inv .0)) (rw (at .inv .1) at (c .loop-test .left)) (at .inv .2)
 
 pub pack-row-spec : {M : Type 1} → statement M
 pack-row-spec =

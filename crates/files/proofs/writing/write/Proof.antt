@@ -1,4 +1,4 @@
--- `files::write` meets its contract: each return is a way through the checks, and the last lays the rows behind the header. Assumes nothing.
+-- `files::write` meets its contract: each return is a way through the checks; the last lays rows behind the header. Assumes nothing.
 use borrow.Author.Needs.{needs}
 use native.Mathlib.Omega.{arith}
 use mathlib.Core.Path.{sym, _∙_}
@@ -46,7 +46,8 @@ fits-requires c κs =
 
 returns-4 : tie.Need-returns-4
 returns-4 c =
-    let live = entries-sum _ _ (c .before .before .before .before .before .before .before .before .before .args .entries .now) _ (cc) (c .before .fits2 .ensures) ∙ c .if4 .taken in
+    let s = c .before .before .before .before .before .before .before .before .before .args in
+    let live = entries-sum _ _ (s .entries .now) _ (cc) (c .before .fits2 .ensures) ∙ c .if4 .taken in
     ends-refused _ _ _ _ _ (write-sum _ _ _ _ (cc) (search needs) (cc) live)
 
 write-header-requires : tie.Need-write-header-requires

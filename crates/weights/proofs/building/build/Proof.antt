@@ -1,4 +1,4 @@
--- `weights::build` meets its contract: each return is a way through the checks, and the last lays the rows behind the header. Assumes nothing.
+-- `weights::build` meets its contract: each return is a way through the checks; the last lays rows behind the header. Assumes nothing.
 use borrow.Author.Needs.{needs}
 use native.Mathlib.Omega.{arith}
 use Prim.Native.Nat.{_<_}

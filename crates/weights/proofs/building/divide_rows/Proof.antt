@@ -3,10 +3,10 @@ use borrow.Author.Needs.{needs}
 use native.Mathlib.Omega.{arith}
 use mathlib.Core.Path.{_≡_, ap}
 use Prim.Native.Nat.{ℕ, _+_, _-_, _*_, _≤_}
-use Rattle.laws.specs.Places.{row-end}
 use lib.ListN.{length, getD}
 use Rattle.laws.specs.Lay.{Laid, blocks, blocks-none, laid-block, blocks-done}
 use Rattle.fields.specs.Fields.{packed, length-packed, width}
+use Rattle.files.specs.Sizes.{row-place}
 use Rattle.weights.specs.Weights.{counted, quotient}
 use Rattle.weights.specs.Building.{counted-le}
 use Rattle.weights.proofs.building.divide_rows.Statement.{statement}
@@ -14,7 +14,8 @@ use Rattle.weights.proofs.building.divide_rows.Tie as tie
 
 abbrev Inv-loop : tie.InvT-loop
 Inv-loop usage weights s n file₀ bytes v₀ v-end file v =
-    (v ≤ length weights) × (bytes ≡ width n) × Laid 8 (blocks v (λ v. packed n (quotient s (counted usage v (getD weights v 0))))) file₀ file
+    (v ≤ length weights) × (bytes ≡ width n) ×
+    Laid 8 (blocks v (λ v. packed n (quotient s (counted usage v (getD weights v 0))))) file₀ file
 
 abbrev μ-loop : tie.MeasureT-loop
 μ-loop usage weights s n file₀ bytes v₀ v-end file v = length weights - v
@@ -35,17 +36,26 @@ counted-weight-requires : tie.Need-counted-weight-requires Inv-loop μ-loop
 counted-weight-requires c κs = search needs
 
 mul-divide-row : tie.Need-mul-divide-row Inv-loop μ-loop
-mul-divide-row c = record { fits = omega (arith, row-end {size = length (c .before .before .before .before .before .before .before .before .args .file .now) - 8} (c .before .before .before .before .before .width .result) (width (c .before .before .before .before .before .before .before .before .args .n)) (c .before .before .before .loop-test .taken) (c .before .before .before .before .loop .inv .1) (omega arith)) }
+mul-divide-row c =
+    let turn = c .before .before .before in
+    let s = turn .before .before .before .before .before in
+    record { fits = omega (arith, row-place _ _ _ _ _ (turn .loop-test .taken) (turn .before .loop .inv .1) (s .pre .2)) }
 
 add-divide-row : tie.Need-add-divide-row Inv-loop μ-loop
-add-divide-row c = record { fits = omega (arith, row-end {size = length (c .before .before .before .before .before .before .before .before .args .file .now) - 8} (c .before .before .before .before .before .width .result) (width (c .before .before .before .before .before .before .before .before .args .n)) (c .before .before .before .loop-test .taken) (c .before .before .before .before .loop .inv .1) (omega arith)) }
+add-divide-row c =
+    let turn = c .before .before .before in
+    let s = turn .before .before .before .before .before in
+    record { fits = omega (arith, row-place _ _ _ _ _ (turn .loop-test .taken) (turn .before .loop .inv .1) (s .pre .2)) }
 
 divide-row-requires : tie.Need-divide-row-requires Inv-loop μ-loop
-divide-row-requires c κs = (
-  rw (c .before .counted-weight .ensures, c .before .before .before .before .before .before .before .before .pre .0) (counted-le _ _ 0 _ (c .before .before .before .loop-test .taken)),
-  search needs,
-  omega (arith, row-end {size = length (c .before .before .before .before .before .before .before .before .args .file .now) - 8} (c .before .before .before .before .before .width .result) (width (c .before .before .before .before .before .before .before .before .args .n)) (c .before .before .before .loop-test .taken) (c .before .before .before .before .loop .inv .1) (omega arith), c .before .before .before .before .loop .inv .2 .long),
-)
+divide-row-requires c κs =
+    let turn = c .before .before .before in
+    let at = turn .before .loop in
+    let s = turn .before .before .before .before .before in (
+      rw (c .before .counted-weight .ensures, s .pre .0) (counted-le _ _ 0 _ (turn .loop-test .taken)),
+      search needs,
+      omega (arith, row-place _ _ _ _ _ (turn .loop-test .taken) (at .inv .1) (s .pre .2), at .inv .2 .long),
+    )
 
 add-v : tie.Need-add-v Inv-loop μ-loop
 add-v c = search needs
@@ -54,12 +64,17 @@ loop-less : tie.Need-loop-less Inv-loop μ-loop
 loop-less c = search needs
 
 loop-again : tie.Need-loop-again Inv-loop μ-loop
-loop-again c = (
-  search needs,
-  search needs,
-  laid-block _ _ _ _ _ _ _ _ (λ v. length-packed _ _) (ap (λ (w : ℕ). 8 + c .before .before .before .before .before .before .before .loop .v * w) (c .before .before .before .before .before .before .before .loop .inv .1))
-      (omega (arith, row-end {size = length (c .before .before .before .before .before .before .before .before .before .before .before .args .file .now) - 8} (c .before .before .before .before .before .before .before .before .width .result) (width (c .before .before .before .before .before .before .before .before .before .before .before .args .n)) (c .before .before .before .before .before .before .loop-test .taken) (c .before .before .before .before .before .before .before .loop .inv .1) (omega arith))) (rw (c .before .before .before .before .counted-weight .ensures) at (c .before .before .divide-row .ensures)) (c .before .before .before .before .before .before .before .loop .inv .2),
-)
+loop-again c =
+    let counted = c .before .before .before .before in
+    let turn = counted .before .before in
+    let at = turn .before .loop in
+    let s = turn .before .before .before .before .before in
+    let room = row-place _ _ _ _ _ (turn .loop-test .taken) (at .inv .1) (s .pre .2) in (
+      search needs,
+      search needs,
+      laid-block _ _ _ _ _ _ _ _ (λ v. length-packed _ _) (ap (λ (w : ℕ). 8 + at .v * w) (at .inv .1)) room
+          (rw (counted .counted-weight .ensures) at (c .before .before .divide-row .ensures)) (at .inv .2),
+    )
 
 same-length : tie.Need-same-length Inv-loop μ-loop
 same-length c = c .before .loop .inv .2 .long

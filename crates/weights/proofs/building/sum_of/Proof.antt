@@ -30,7 +30,9 @@ counted-weight-requires : tie.Need-counted-weight-requires Inv-loop μ-loop
 counted-weight-requires c κs = search needs
 
 add-s : tie.Need-add-s Inv-loop μ-loop
-add-s c = record { fits = omega (arith, c .before .shared-slice-known2 .given (c .before .before .before .loop .v), c .counted-weight .ensures) }
+add-s c =
+    let read = c .before in
+    record { fits = omega (arith, read .shared-slice-known2 .given (read .before .before .loop .v), c .counted-weight .ensures) }
 
 add-v : tie.Need-add-v Inv-loop μ-loop
 add-v c = search needs
@@ -39,7 +41,13 @@ loop-less : tie.Need-loop-less Inv-loop μ-loop
 loop-less c = search needs
 
 loop-again : tie.Need-loop-again Inv-loop μ-loop
-loop-again c = (search needs, sum-turn _ _ _ _ (c .counted-weight .ensures) (c .before .before .before .loop .inv .1), omega (arith, c .before .shared-slice-known2 .given (c .before .before .before .loop .v), c .counted-weight .ensures))
+loop-again c =
+    let read = c .before in
+    let at = read .before .before .loop in (
+      search needs,
+      sum-turn _ _ _ _ (c .counted-weight .ensures) (at .inv .1),
+      omega (arith, read .shared-slice-known2 .given (at .v), c .counted-weight .ensures),
+    )
 
 returns : tie.Need-returns Inv-loop μ-loop
 unfolding sum

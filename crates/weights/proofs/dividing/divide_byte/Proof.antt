@@ -1,4 +1,5 @@
--- `weights::divide_byte` meets its contract: the byte so far is the number of the bits found, and what is left is what those steps leave. Assumes nothing.
+-- `weights::divide_byte` meets its contract: the byte so far is the number of the bits found, and what is left is what those steps
+-- leave. Assumes nothing.
 use borrow.Author.Needs.{needs}
 use native.Mathlib.Omega.{arith}
 use mathlib.Core.Path.{_≡_}
@@ -24,16 +25,20 @@ divide-bit-requires : tie.Need-divide-bit-requires Inv-loop μ-loop
 divide-bit-requires c κs = search needs
 
 mul-byte : tie.Need-mul-byte Inv-loop μ-loop
-mul-byte c = record { fits = omega (arith, spelt-room _ _ _ 8 _ (c .before .loop-test .taken) (c .before .before .loop .inv .1)) }
+mul-byte c =
+    let turn = c .before in
+    record { fits = omega (arith, spelt-room _ _ _ 8 _ (turn .loop-test .taken) (turn .before .loop .inv .1)) }
 
 kept-requires : tie.Need-kept-requires Inv-loop μ-loop
 kept-requires c κs = search needs
 
 add-byte : tie.Need-add-byte Inv-loop μ-loop
 add-byte c =
-    let b = kept-is _ _ _ _ _ _ _ (c .before .before .before .loop .inv .2) (c .before .divide-bit .ensures .bit-is) (c .kept .ensures) in
+    let turn = c .before .before in
+    let at = turn .before .loop in
+    let b = kept-is _ _ _ _ _ _ _ (at .inv .2) (c .before .divide-bit .ensures .bit-is) (c .kept .ensures) in
     let l : c .kept .result ≤ 1 = rw b (padded-le _ _ _ (λ i h. quotient-le _ _ i)) in
-    record { fits = omega (arith, spelt-room _ _ _ 8 _ (c .before .before .loop-test .taken) (c .before .before .before .loop .inv .1)) }
+    record { fits = omega (arith, spelt-room _ _ _ 8 _ (turn .loop-test .taken) (at .inv .1)) }
 
 add-t : tie.Need-add-t Inv-loop μ-loop
 add-t c = search needs
@@ -43,19 +48,22 @@ loop-less c = search needs
 
 loop-again : tie.Need-loop-again Inv-loop μ-loop
 loop-again c =
-    let b = kept-is _ _ _ _ _ _ _ (c .before .before .before .loop .inv .2) (c .before .divide-bit .ensures .bit-is) (c .kept .ensures) in (
+    let at = c .before .before .before .loop in
+    let step = c .before .divide-bit .ensures in
+    let b = kept-is _ _ _ _ _ _ _ (at .inv .2) (step .bit-is) (c .kept .ensures) in (
       search needs,
-      spelt-more _ _ _ _ _ b (rw b (padded-le _ _ _ (λ i h. quotient-le _ _ i))) (c .before .before .before .loop .inv .1),
-      rest-next _ _ _ _ _ (c .before .before .before .loop .inv .2) (c .before .divide-bit .ensures .rest-is),
+      spelt-more _ _ _ _ _ b (rw b (padded-le _ _ _ (λ i h. quotient-le _ _ i))) (at .inv .1),
+      rest-next _ _ _ _ _ (at .inv .2) (step .rest-is),
       search needs,
     )
 
 returns : tie.Need-returns Inv-loop μ-loop
 returns c =
+    let at = c .before .loop in
     record {
-      byte-is = spelt-done _ _ _ _ _ (c .before .loop .inv .0) (c .loop-test .left) (c .before .loop .inv .1);
-      rest-is = rest-done _ _ _ _ (c .before .loop .inv .0) (c .loop-test .left) (c .before .loop .inv .2);
-      small = c .before .loop .inv .3;
+      byte-is = spelt-done _ _ _ _ _ (at .inv .0) (c .loop-test .left) (at .inv .1);
+      rest-is = rest-done _ _ _ _ (at .inv .0) (c .loop-test .left) (at .inv .2);
+      small = at .inv .3;
     }
 
 pub divide-byte-spec : {M : Type 1} → statement M

@@ -12,7 +12,8 @@ use Rattle.weights.proofs.dividing.divide_row.Tie as tie
 
 abbrev Inv-loop : tie.InvT-loop
 Inv-loop w s n file₀ at rest₀ bytes q₀ file rest q =
-    (q ≤ bytes) × (bytes ≡ width n) × (rest ≡ rest-after s w (8 * q)) × (rest ≤ s) × Laid at (upto q (λ q. number (padded n (quotient s w)) (8 * q) 8)) file₀ file
+    (q ≤ bytes) × (bytes ≡ width n) × (rest ≡ rest-after s w (8 * q)) × (rest ≤ s) ×
+    Laid at (upto q (λ q. number (padded n (quotient s w)) (8 * q) 8)) file₀ file
 
 abbrev μ-loop : tie.MeasureT-loop
 μ-loop w s n file₀ at rest₀ bytes q₀ file rest q = bytes - q
@@ -45,20 +46,24 @@ loop-less : tie.Need-loop-less Inv-loop μ-loop
 loop-less c = search needs
 
 loop-again : tie.Need-loop-again Inv-loop μ-loop
-loop-again c = (
-  search needs,
-  search needs,
-  c .divide-byte .ensures .rest-is ∙ rest-byte _ _ _ _ (c .before .before .loop .inv .2),
-  c .divide-byte .ensures .small,
-  laid-store _ _ _ _ _ _ _ refl (search needs) (c .divide-byte .ensures .byte-is ∙ byte-on _ _ _ _ _ (c .before .before .loop .inv .2)) (c .before .before .loop .inv .4),
-)
+loop-again c =
+    let at = c .before .before .loop in
+    let next = c .divide-byte .ensures in (
+      search needs,
+      search needs,
+      next .rest-is ∙ rest-byte _ _ _ _ (at .inv .2),
+      next .small,
+      laid-store _ _ _ _ _ _ _ refl (search needs) (next .byte-is ∙ byte-on _ _ _ _ _ (at .inv .2)) (at .inv .4),
+    )
 
 same-length : tie.Need-same-length Inv-loop μ-loop
 same-length c = c .before .loop .inv .4 .long
 
 returns : tie.Need-returns Inv-loop μ-loop
 unfolding packed
-returns c = upto-done _ _ _ _ _ _ (rw (c .before .loop .inv .1) at (c .before .loop .inv .0)) (rw (c .before .loop .inv .1) at (c .loop-test .left)) (c .before .loop .inv .4)
+returns c =
+    let at = c .before .loop in
+    upto-done _ _ _ _ _ _ (rw (at .inv .1) at (at .inv .0)) (rw (at .inv .1) at (c .loop-test .left)) (at .inv .4)
 
 pub divide-row-spec : {M : Type 1} → statement M
 divide-row-spec =
