@@ -10,15 +10,14 @@ use lib.ListN.{length, getD, take, length-append}
 use lib.Seq.{getD-take}
 use Rattle.laws.specs.Sums.{any, any-false}
 use Rattle.laws.specs.Digits.{digit}
-use Rattle.laws.specs.Lay.{Laid, laid-none, laid-after, blocks, blocks-eq, lay, layAt, layAt-after, lay-is, length-blocks}
+use Rattle.laws.specs.Lay.{Laid, laid-none, laid-after, blocks, blocks-eq, lay, layAt, layAt-after, lay-is, length-lay, length-blocks}
 use Rattle.laws.specs.Outcome.{Outcome, refused, gives, refuse, _>>_, mapped, laid, passed, gives-inj}
 use Rattle.laws.specs.Outcome.{mapped-gives, mapped-refused, mapped-then, ends-given}
-use Rattle.fields.specs.Limits.{most-columns, outside}
 use Rattle.fields.specs.Fields.{fieldBytes, stored, stored-at, packedBit, packed, packed-eq, width, length-packed}
-use Rattle.files.specs.Matrix.{Matrix, sizesOutside, bit, total, most-rows}
+use Rattle.files.specs.Matrix.{Matrix, sizesOutside, bit, total}
 use Rattle.files.specs.Live.{total-from}
 use Rattle.files.specs.Files.{fileLength, headerBytes, rowBytes, matrixFile, taken, writeHeaderOf, writeOf}
-use Rattle.files.specs.Sizes.{sizes-refuse, cell}
+use Rattle.files.specs.Sizes.{Sized, sizes-within, sizes-refuse, cell}
 use Rattle.files.specs.Checks.{total-is, not-above}
 
 -- ---- the header that is written
@@ -40,17 +39,16 @@ module _ (m n room : ℕ) where
 
 -- what an answer of a length says
 pub record Headed (m n room : ℕ) : Type 0 where
+  pub sized : Sized m n
   pub is : writeHeaderOf m n room ≡ gives (headerBytes m n)
   pub room-is : fileLength m n ≤ room
 
 pub headed : (m n room len : ℕ) → gives len ≡ mapped (λ h. fileLength m n) (writeHeaderOf m n room) → Headed m n room
-unfolding writeHeaderOf
 headed m n room len e =
     let g = mapped-gives (λ h. fileLength m n) (writeHeaderOf m n room) len e in
-    let c1 = passed 3 (outside most-rows m) _ (g .0) (g .1) in
-    let c2 = passed 3 (outside most-columns n) _ (g .0) (c1 .1) in
-    let c3 = passed 13 (ltb room (fileLength m n)) _ (g .0) (c2 .1) in
-    record { is = g .1 ∙ sym (c3 .1); room-is = ltb-false room (fileLength m n) (c3 .0) }
+    let c1 = passed 3 (sizesOutside m n) _ (g .0) (sym (head-is m n room) ∙ g .1) in
+    let c2 = passed 13 (ltb room (fileLength m n)) _ (g .0) (c1 .1) in
+    record { sized = sizes-within m n (c1 .0); is = g .1 ∙ sym (c2 .1); room-is = ltb-false room (fileLength m n) (c2 .0) }
 
 -- a file whose last check is its header's
 pub with-header : (m n room : ℕ) (file : List ℕ) → sizesOutside m n ≡ false →
@@ -79,9 +77,6 @@ module _ (m n : ℕ) (entries : List ℕ) (room : ℕ) where
       write-bit d = rw (write-is a, le-ltb (length entries) (m * n) c, d)
 
       module _ (d : any (m * n) (λ i. ltb 1 (getD entries i 0)) ≡ false) where
-        pub write-sum : ltb (2 ^ n) (total (taken m n entries)) ≡ true → writeOf m n entries room ≡ refused 6
-        write-sum e = rw (write-is a, le-ltb (length entries) (m * n) c, d, e)
-
         pub write-rest : ltb (2 ^ n) (total (taken m n entries)) ≡ false →
             writeOf m n entries room ≡ mapped (λ h. matrixFile (taken m n entries)) (writeHeaderOf m n room)
         write-rest e = rw (write-is a, le-ltb (length entries) (m * n) c, d, e)
@@ -159,24 +154,60 @@ file-laid M f file x1 x2 h e e1 e2 =
     (rw place at (layAt-after 0 head (rowBytes M) file (omega (arith, long))) ∙ lay-is (head ++ rowBytes M) file)
 
 -- ---- the last step of what writes a matrix: its header's refusal, or the rows behind the header
-module _ (M : Matrix) (o : Outcome (List ℕ)) (file : List ℕ)
-    (is : o ≡ mapped (λ h. matrixFile M) (writeHeaderOf (M .rows) (M .columns) (length file))) where
-  pub ends-unheaded : (k : ℕ) (now : List ℕ) →
-      refused k ≡ mapped (λ h. fileLength (M .rows) (M .columns)) (writeHeaderOf (M .rows) (M .columns) (length file)) →
-      now ≡ lay (laid (λ h. h) (writeHeaderOf (M .rows) (M .columns) (length file))) file →
-      (refused k ≡ mapped length o) × (now ≡ lay (laid (λ bytes. bytes) o) file)
-  ends-unheaded k now e l =
-      let w = mapped-refused (λ h. fileLength (M .rows) (M .columns)) (writeHeaderOf (M .rows) (M .columns) (length file)) k e in
-      rw (is, w) (refl, rw w at l)
+-- what a header's writer leaves, with its answer, in a file with that room
+abbrev pub Head : ℕ → ℕ → ℕ → List ℕ → Outcome ℕ → List ℕ → Type 0
+Head m n room file answer now =
+    (answer ≡ mapped (λ h. fileLength m n) (writeHeaderOf m n room)) × (now ≡ lay (laid (λ h. h) (writeHeaderOf m n room)) file)
+
+-- and what a file's does
+abbrev pub Wrote : Outcome (List ℕ) → List ℕ → Outcome ℕ → List ℕ → Type 0
+Wrote o file answer now = (answer ≡ mapped length o) × (now ≡ lay (laid (λ bytes. bytes) o) file)
+
+-- after a header there is room for the rows
+pub head-room : (m n len room : ℕ) (file now : List ℕ) → room ≡ length file → Head m n room file (gives len) now →
+    Sized m n × (fileLength m n ≤ length now)
+head-room m n len room file now all w =
+    let h = headed m n room len (w .0) in
+    let long = length-header m n in
+    let fits : length (headerBytes m n) ≤ length file = omega (arith, h .room-is) in
+    (h .sized, rw (w .1, h .is, length-lay (headerBytes m n) file fits) (omega (arith, h .room-is)))
+
+module _ (M : Matrix) (o : Outcome (List ℕ)) (room : ℕ) (file : List ℕ) (all : room ≡ length file)
+    (is : o ≡ mapped (λ h. matrixFile M) (writeHeaderOf (M .rows) (M .columns) room)) where
+  pub ends-unheaded : (k : ℕ) (now : List ℕ) → Head (M .rows) (M .columns) room file (refused k) now → Wrote o file (refused k) now
+  ends-unheaded k now h =
+      let w = mapped-refused (λ h. fileLength (M .rows) (M .columns)) (writeHeaderOf (M .rows) (M .columns) room) k (h .0) in
+      rw (is, w) (refl, rw w at (h .1))
 
   pub ends-headed : (f : ℕ → ℕ → ℕ) (len : ℕ) (now now′ : List ℕ) → ((v c : ℕ) → v < M .rows → c < M .columns → f v c ≡ bit M v c) →
-      gives len ≡ mapped (λ h. fileLength (M .rows) (M .columns)) (writeHeaderOf (M .rows) (M .columns) (length file)) →
-      now ≡ lay (laid (λ h. h) (writeHeaderOf (M .rows) (M .columns) (length file))) file →
-      now′ ≡ layAt 8 (blocks (M .rows) (λ v. packed (M .columns) (f v))) now →
-      (gives len ≡ mapped length o) × (now′ ≡ lay (laid (λ bytes. bytes) o) file)
-  ends-headed f len now now′ bits e l r =
-      let h = headed (M .rows) (M .columns) (length file) len e in
+      Head (M .rows) (M .columns) room file (gives len) now → now′ ≡ layAt 8 (blocks (M .rows) (λ v. packed (M .columns) (f v))) now →
+      Wrote o file (gives len) now′
+  ends-headed f len now now′ bits w r =
+      let h = headed (M .rows) (M .columns) room len (w .0) in
       let whole : o ≡ gives (matrixFile M) = is ∙ rw (h .is) in
-      let len-is : len ≡ fileLength (M .rows) (M .columns) = gives-inj (rw (h .is) at e) in
+      let len-is : len ≡ fileLength (M .rows) (M .columns) = gives-inj (rw (h .is) at (w .0)) in
       ends-given length (λ bytes. bytes) (matrixFile M) len o file now′ whole (len-is ∙ sym (length-file M))
-      (file-laid M f file now now′ (omega (arith, h .room-is)) bits (rw (h .is) at l) r)
+      (file-laid M f file now now′ (omega (arith, h .room-is)) bits (rw (h .is) at (w .1)) r)
+
+pub write-sum : (m n : ℕ) (entries : List ℕ) (room : ℕ) → sizesOutside m n ≡ false → m * n ≤ length entries →
+    any (m * n) (λ i. ltb 1 (getD entries i 0)) ≡ false → not (leb (total-from (λ v. packedBit 1 entries (v * n)) m 0 n) (2 ^ n)) ≡ true →
+    writeOf m n entries room ≡ refused 6
+write-sum m n entries room a c d e =
+    rw (write-is m n entries room a, le-ltb (length entries) (m * n) c, d, entries-sum m n entries _ d refl ∙ e)
+
+-- the same of entries that have passed their checks
+module _ (m n : ℕ) (entries : List ℕ) (room : ℕ) (file : List ℕ) (all : room ≡ length file) (a : sizesOutside m n ≡ false)
+    (c : m * n ≤ length entries) (d : any (m * n) (λ i. ltb 1 (getD entries i 0)) ≡ false)
+    (e : not (leb (total-from (λ v. packedBit 1 entries (v * n)) m 0 n) (2 ^ n)) ≡ false) where
+  passes : writeOf m n entries room ≡ mapped (λ h. matrixFile (taken m n entries)) (writeHeaderOf m n room)
+  passes = write-rest m n entries room a c d (entries-sum m n entries _ d refl ∙ e)
+
+  pub write-unheaded : (k : ℕ) (now : List ℕ) → Head m n room file (refused k) now → Wrote (writeOf m n entries room) file (refused k) now
+  write-unheaded = ends-unheaded (taken m n entries) (writeOf m n entries room) room file all passes
+
+  pub write-headed : (len : ℕ) (now now′ : List ℕ) → Head m n room file (gives len) now →
+      now′ ≡ layAt 8 (blocks m (λ v. packed n (λ i. getD entries (v * n + i) 0))) now →
+      Wrote (writeOf m n entries room) file (gives len) now′
+  write-headed len now now′ =
+      ends-headed (taken m n entries) (writeOf m n entries room) room file all passes (λ v i. getD entries (v * n + i) 0) len now now′
+      (λ v i h l. sym (taken-bit m n entries v i h l))

@@ -1,5 +1,6 @@
 // Matrix files: writing (01, "Files").
 ghost use mathlib.Core.Path.{_≡_};
+ghost use mathlib.Core.Bool.{false};
 ghost use Prim.Native.Nat.{ℕ, _+_, _*_, _≤_, _<_};
 ghost use lib.Dec.{ltb};
 ghost use lib.ListN.{length, getD};
@@ -70,7 +71,7 @@ fn pack_row(entries: &[u8], from: usize, n: usize, file: &mut [u8], at: usize)
 fn pack_rows(entries: &[u8], m: usize, n: usize, file: &mut [u8])
     requires { ⌜ (
         (m ≤ most-rows) × (n ≤ most-columns) × (m * n ≤ length (now entries)) × (8 + m * width n ≤ length (now file)) ×
-        ((i : ℕ) → i < m * n → getD (now entries) i 0 ≤ 1)
+        (any (m * n) (λ i. ltb 1 (getD (now entries) i 0)) ≡ false)
         ) ⌝ }
     ensures { λ _. ⌜ (
         now (file .exit) ≡

@@ -11,13 +11,15 @@ use lib.ListN.{length, getD}
 use Rattle.laws.specs.Sums.{sumTo, sum-eq, sum-mono, sum-times, term-le}
 use Rattle.laws.specs.Digits.{number-shift, number-digit, digit, digit-le}
 use Rattle.laws.specs.Outcome.{refused, gives, refuse, _>>_, mapped, passed, gives-inj}
+use Rattle.laws.specs.Lay.{blocks, layAt}
 use Rattle.fields.specs.Limits.{outside, most-columns, within}
+use Rattle.fields.specs.Fields.{packed}
 use Rattle.files.specs.Matrix.{Accepted, sizesOutside, bit, p, total, most-rows}
 use Rattle.files.specs.Files.{fileLength, matrixFile, matrixOf, readOf, writeHeaderOf}
 use Rattle.files.specs.Matrices.{tabled-whole, tabled-bit, tabled-bits}
 use Rattle.files.specs.Sizes.{sizes-refuse}
 use Rattle.files.specs.Checks.{read-room}
-use Rattle.files.specs.Writing.{with-header}
+use Rattle.files.specs.Writing.{with-header, Head, Wrote, ends-unheaded, ends-headed}
 use Rattle.files.specs.RoundTrip.{write-read}
 use Rattle.weights.specs.Weights.{counted, sum, share, built, buildOf, quotient}
 use Rattle.weights.specs.Division.{share-largest, quotient-is}
@@ -87,6 +89,26 @@ module _ (usage : Usage) (weights : List ℕ) (n : ℕ) where
       let whole : sumTo (length weights) w ≡ S = weights-sum in
       let all : sumTo (length weights) row * S ≤ 2 ^ n * S = omega (arith, scaled, ap (λ (x : ℕ). x * 2 ^ n) whole) in
       rw T (le-of-mul-le-mul-right {k = S} all z)
+
+  -- the last step of building, past its checks
+  module _ (room : ℕ) (file : List ℕ) (all : room ≡ length file) (a : sizesOutside (length weights) n ≡ false)
+      (c : sum usage weights ≡ 0 → ⊥) where
+    passes : buildOf usage weights n room ≡ mapped (λ h. matrixFile (built usage weights n)) (writeHeaderOf (length weights) n room)
+    passes = build-rest usage weights n room a c
+
+    pub build-unheaded : (k : ℕ) (now : List ℕ) → Head (length weights) n room file (refused k) now →
+        Wrote (buildOf usage weights n room) file (refused k) now
+    unfolding built
+    build-unheaded = ends-unheaded (built usage weights n) (buildOf usage weights n room) room file all passes
+
+    pub build-headed : (len : ℕ) (now now′ : List ℕ) (s : ℕ) → s ≡ sum usage weights → Head (length weights) n room file (gives len) now →
+        now′ ≡ layAt 8 (blocks (length weights) (λ v. packed n (quotient s (counted usage v (getD weights v 0))))) now →
+        Wrote (buildOf usage weights n room) file (gives len) now′
+    unfolding built
+    build-headed len now now′ s e h r =
+        let some : 0 < sum usage weights = omega arith in
+        ends-headed (built usage weights n) (buildOf usage weights n room) room file all passes
+        (λ v. quotient (sum usage weights) (counted usage v (getD weights v 0))) len now now′ (built-quotient some) h (rw e at r)
 
   pub built-accepted : 1 ≤ length weights → length weights ≤ most-rows → 1 ≤ n → n ≤ most-columns → 0 < sum usage weights →
       Accepted (built usage weights n)

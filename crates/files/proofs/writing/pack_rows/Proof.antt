@@ -8,6 +8,7 @@ use lib.ListN.{getD}
 use Rattle.laws.specs.Lay.{Laid, blocks, blocks-none, laid-block, blocks-done}
 use Rattle.fields.specs.Fields.{packed, length-packed, width}
 use Rattle.files.specs.Sizes.{cell, row-place}
+use Rattle.files.specs.Writing.{no-entry-above}
 use Rattle.files.proofs.writing.pack_rows.Statement.{statement}
 use Rattle.files.proofs.writing.pack_rows.Tie as tie
 
@@ -49,7 +50,7 @@ pack-row-requires c κs =
       omega (arith, row-end (s .args .n) (s .args .n) (turn .loop-test .taken) refl (s .pre .2)),
       search needs,
       omega (arith, row-place _ _ _ _ _ (turn .loop-test .taken) (at .inv .1) (s .pre .3), at .inv .2 .long),
-      λ i h. s .pre .4 _ (cell _ _ _ i (turn .loop-test .taken) h),
+      λ i h. no-entry-above _ (s .args .entries .now) (s .pre .4) _ (cell _ _ _ i (turn .loop-test .taken) h),
     )
 
 add-v : tie.Need-add-v Inv-loop μ-loop

@@ -1,12 +1,9 @@
 -- `files::write` meets its contract: each return is a way through the checks; the last lays rows behind the header. Assumes nothing.
 use borrow.Author.Needs.{needs}
 use native.Mathlib.Omega.{arith}
-use mathlib.Core.Path.{sym, _∙_}
 use Rattle.laws.specs.Outcome.{ends-refused}
-use Rattle.files.specs.Files.{taken}
 use Rattle.files.specs.Sizes.{cell, few-cells, sizes-within}
-use Rattle.files.specs.Writing.{write-sizes, write-short, write-bit, write-sum, write-rest}
-use Rattle.files.specs.Writing.{entries-sum, no-entry-above, taken-bit, headed, ends-unheaded, ends-headed}
+use Rattle.files.specs.Writing.{write-sizes, write-short, write-bit, write-sum, head-room, write-unheaded, write-headed}
 use Rattle.files.proofs.writing.write.Statement.{statement}
 use Rattle.files.proofs.writing.write.Tie as tie
 
@@ -45,10 +42,7 @@ fits-requires c κs =
     )
 
 returns-4 : tie.Need-returns-4
-returns-4 c =
-    let s = c .before .before .before .before .before .before .before .before .before .args in
-    let live = entries-sum _ _ (s .entries .now) _ (cc) (c .before .fits2 .ensures) ∙ c .if4 .taken in
-    ends-refused _ _ _ _ _ (write-sum _ _ _ _ (cc) (search needs) (cc) live)
+returns-4 c = ends-refused _ _ _ _ _ (write-sum _ _ _ _ (cc) (search needs) (cc) (cc))
 
 write-header-requires : tie.Need-write-header-requires
 write-header-requires c κs = search needs
@@ -62,42 +56,26 @@ enum-known-length c = search needs
 pack-rows-requires : tie.Need-pack-rows-requires
 pack-rows-requires c κs =
     let wrote = c .before .before .before .before .before .before in
-    let s = wrote .before .before .before .before .before .before .before .before .before .before .before .args in
-    let sized = sizes-within (s .rows) (s .columns) (cc) in
-    let head = headed _ _ _ _ (rw (c .before .before .length .given .1) at (wrote .write-header .ensures .0)) in (
-      sized .few-rows,
-      sized .few-columns,
-      search needs,
-      omega (arith, head .room-is, wrote .write-header .kept .1 .1 .0),
-      no-entry-above _ (s .entries .now) (cc),
-    )
+    let head = head-room _ _ _ _ _ _ (cc) (rw (c .before .before .length .given .1) at (wrote .write-header .ensures)) in
+    (head .0 .few-rows, head .0 .few-columns, search needs, head .1, (cc))
 
 same-length : tie.Need-same-length
 same-length c = search needs
 
 returns-5 : tie.Need-returns-5
 returns-5 c =
-    let wrote = c .before .before .before .before .before in
-    let s = wrote .before .before .before .before .before .before .before .before .before .before .before .args in
-    let tried = wrote .before .before in
-    let live = entries-sum _ _ (s .entries .now) _ (cc) (tried .before .fits2 .ensures) ∙ tried .if4 .left in
-    ends-unheaded (taken (s .rows) (s .columns) (s .entries .now)) _ (s .file .now) (write-rest _ _ _ _ (cc) (search needs) (cc) live) _ _
-    (rw (c .before .why .given .1) at (wrote .write-header .ensures .0)) (wrote .write-header .ensures .1)
+    write-unheaded _ _ _ _ _ (cc) (cc) (search needs) (cc) (cc) _ _
+    (rw (c .before .why .given .1) at (c .before .before .before .before .before .write-header .ensures))
 
 same-length-2 : tie.Need-same-length-2
 same-length-2 c = search needs
 
 returns-6 : tie.Need-returns-6
 returns-6 c =
-    let filled = c .before .before in
-    let wrote = filled .before .before .before .before .before .before .before in
-    let s = wrote .before .before .before .before .before .before .before .before .before .before .before .args in
-    let tried = wrote .before .before in
-    let live = entries-sum _ _ (s .entries .now) _ (cc) (tried .before .fits2 .ensures) ∙ tried .if4 .left in
-    ends-headed (taken (s .rows) (s .columns) (s .entries .now)) _ (s .file .now) (write-rest _ _ _ _ (cc) (search needs) (cc) live)
-    _ _ _ _ (λ v i h l. sym (taken-bit _ _ _ v i h l))
-    (rw (filled .before .before .before .length .given .1) at (wrote .write-header .ensures .0)) (wrote .write-header .ensures .1)
-    (filled .pack-rows .ensures)
+    let wrote = c .before .before .before .before .before .before .before .before .before in
+    write-headed _ _ _ _ _ (cc) (cc) (search needs) (cc) (cc) _ _ _
+    (rw (c .before .before .before .before .before .length .given .1) at (wrote .write-header .ensures))
+    (c .before .before .pack-rows .ensures)
 
 pub write-spec : {M : Type 1} → statement M
 write-spec =

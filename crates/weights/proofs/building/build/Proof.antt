@@ -1,13 +1,11 @@
 -- `weights::build` meets its contract: each return is a way through the checks; the last lays rows behind the header. Assumes nothing.
 use borrow.Author.Needs.{needs}
 use native.Mathlib.Omega.{arith}
-use Prim.Native.Nat.{_<_}
 use lib.ListN.{length}
 use Rattle.laws.specs.Outcome.{ends-refused}
 use Rattle.files.specs.Sizes.{sizes-within}
-use Rattle.files.specs.Writing.{headed, ends-unheaded, ends-headed}
-use Rattle.weights.specs.Weights.{sum, built}
-use Rattle.weights.specs.Building.{build-sizes, build-zero, build-rest, built-quotient}
+use Rattle.files.specs.Writing.{head-room}
+use Rattle.weights.specs.Building.{build-sizes, build-zero, build-unheaded, build-headed}
 use Rattle.weights.proofs.building.build.Statement.{statement}
 use Rattle.weights.proofs.building.build.Tie as tie
 
@@ -37,34 +35,26 @@ enum-known-length c = search needs
 divide-rows-requires : tie.Need-divide-rows-requires
 divide-rows-requires c κs =
     let wrote = c .before .before .before .before .before .before in
-    let head = headed _ _ _ _ (rw (c .before .before .length .given .1) at (wrote .write-header .ensures .0)) in
-    (search needs, search needs, omega (arith, head .room-is, wrote .write-header .kept .1 .1 .0))
+    let head = head-room _ _ _ _ _ _ (cc) (rw (c .before .before .length .given .1) at (wrote .write-header .ensures)) in
+    (search needs, search needs, head .1)
 
 same-length : tie.Need-same-length
 same-length c = search needs
 
 returns-3 : tie.Need-returns-3
-unfolding built
 returns-3 c =
-    let wrote = c .before .before .before .before .before in
-    let s = wrote .before .before .before .before .before .before .before .before .args in
-    ends-unheaded (built (s .usage) (s .weights .now) (s .columns)) _ (s .file .now) (build-rest _ _ _ _ (cc) (λ z. omega arith)) _ _
-    (rw (c .before .why .given .1) at (wrote .write-header .ensures .0)) (wrote .write-header .ensures .1)
+    build-unheaded _ _ _ _ _ (cc) (cc) (λ z. omega arith) _ _
+    (rw (c .before .why .given .1) at (c .before .before .before .before .before .write-header .ensures))
 
 same-length-2 : tie.Need-same-length-2
 same-length-2 c = search needs
 
 returns-4 : tie.Need-returns-4
-unfolding built
 returns-4 c =
-    let filled = c .before .before in
-    let wrote = filled .before .before .before .before .before .before .before in
-    let s = wrote .before .before .before .before .before .before .before .before .args in
-    let some : 0 < sum (s .usage) (s .weights .now) = omega arith in
-    ends-headed (built (s .usage) (s .weights .now) (s .columns)) _ (s .file .now) (build-rest _ _ _ _ (cc) (λ z. omega arith))
-    _ _ _ _ (built-quotient _ _ _ some)
-    (rw (filled .before .before .before .length .given .1) at (wrote .write-header .ensures .0)) (wrote .write-header .ensures .1)
-    (rw (wrote .before .before .before .sum-of .ensures .0) at (filled .divide-rows .ensures))
+    let wrote = c .before .before .before .before .before .before .before .before .before in
+    build-headed _ _ _ _ _ (cc) (cc) (λ z. omega arith) _ _ _ _ (wrote .before .before .before .sum-of .ensures .0)
+    (rw (c .before .before .before .before .before .length .given .1) at (wrote .write-header .ensures))
+    (c .before .before .divide-rows .ensures)
 
 pub build-spec : {M : Type 1} → statement M
 build-spec =
