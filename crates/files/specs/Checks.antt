@@ -1,6 +1,6 @@
 -- The ways through the checks of a matrix file, and what passing them says. Assumes nothing.
 use Prim.Native.Nat.{ℕ, _+_, _-_, _*_, _/_, _^_, _≤_, _<_}
-use mathlib.Core.Path.{_≡_, refl, sym, ap, _∙_, subst}
+use mathlib.Core.Path.{_≡_, refl, ap, _∙_, subst}
 use mathlib.Core.Bool.{Bool, true, false, not}
 use mathlib.Core.List.{List}
 use native.Mathlib.Omega.{arith}
@@ -13,12 +13,12 @@ use Rattle.laws.specs.Places.{row-end}
 use Rattle.laws.specs.Lay.{rest-is}
 use Rattle.laws.specs.Outcome.{Outcome, refused, gives, refuse, _>>_, _>>=_, passed, bound, mapped, mapped-gives, mapped-refused, gives-inj}
 use Rattle.fields.specs.Limits.{most-columns, inside, within}
-use Rattle.fields.specs.Fields.{fieldOf, width, bitOf, packedBit}
+use Rattle.fields.specs.Fields.{fieldOf, width, bitOf}
 use Rattle.fields.specs.Strings.{anySpare, stringsOf, strings-whole}
 use Rattle.files.specs.Matrix.{Matrix, Sizes, sizes, sizesOutside, bit, p, total, most-rows}
 use Rattle.files.specs.Matrices.{tabled-bit}
 use Rattle.files.specs.Sizes.{sizes-refuse}
-use Rattle.files.specs.Live.{total-from}
+use Rattle.files.specs.Live.{total-from, rowsFit}
 use Rattle.files.specs.Files.{fileLength, headerOf, bodyOf, matrixOf, readOf, unpacked, Whole}
 
 -- ---- the header: how far it came
@@ -116,14 +116,12 @@ not-above t x = go (leb t x) refl
     go false e = lt-ltb x t (leb-false t x e)
 
 -- the live test of the packed rows is refusal 6's
-pub live-sum : (bytes : List ℕ) (s : Sizes) (w : ℕ) (r : Bool) → w ≡ width (s .columns) →
-    r ≡ leb (total-from (λ v. packedBit 8 bytes (v * w)) (s .rows) 0 (s .columns)) (2 ^ s .columns) →
-    ltb (2 ^ s .columns) (total (unpacked bytes s)) ≡ not r
+pub live-sum : (bytes : List ℕ) (s : Sizes) (w : ℕ) → w ≡ width (s .columns) →
+    ltb (2 ^ s .columns) (total (unpacked bytes s)) ≡ not (rowsFit bytes 8 w (s .rows) (s .columns))
 unfolding unpacked
-live-sum bytes s w r e q =
-    let t : total (unpacked bytes s) ≡ total-from (λ v. packedBit 8 bytes (v * w)) (s .rows) 0 (s .columns) =
-    rw e (total-is (unpacked bytes s) (λ v. bitOf bytes (v * width (s .columns))) (unpacked-bit bytes s)) in
-    rw (t, q) (not-above (total-from (λ v. packedBit 8 bytes (v * w)) (s .rows) 0 (s .columns)) (2 ^ s .columns))
+live-sum bytes s w e =
+    rw (e, total-is (unpacked bytes s) (λ v. bitOf bytes (v * width (s .columns))) (unpacked-bit bytes s))
+    (not-above (total-from (λ v. bitOf bytes (v * width (s .columns))) (s .rows) 0 (s .columns)) (2 ^ s .columns))
 
 module _ (file : List ℕ) (s : Sizes) (w : Whole file s) where
   -- the rows are strings that are all there, so that of their refusals 5 alone is left
@@ -144,11 +142,11 @@ module _ (file : List ℕ) (s : Sizes) (w : Whole file s) where
   pub body-refused : (n : ℕ) → refused n ≡ stringsOf (s .rows) (s .columns) (drop 8 file) → refused n ≡ mapped sizes (bodyOf file s)
   body-refused n e = rw (body-is, ← e)
 
-  pub body-sum : (b : Bool) → gives tt ≡ stringsOf (s .rows) (s .columns) (drop 8 file) →
-      ltb (2 ^ s .columns) (total (unpacked (drop 8 file) s)) ≡ b → (refuse 6 b >> gives s) ≡ mapped sizes (bodyOf file s)
+  pub body-sum : (b : Bool) (w : ℕ) → gives tt ≡ stringsOf (s .rows) (s .columns) (drop 8 file) → w ≡ width (s .columns) →
+      not (rowsFit (drop 8 file) 8 w (s .rows) (s .columns)) ≡ b → (refuse 6 b >> gives s) ≡ mapped sizes (bodyOf file s)
   unfolding unpacked
-  body-sum true e t = rw (body-is, ← e, t)
-  body-sum false e t = rw (body-is, ← e, t)
+  body-sum true w e q t = rw (body-is, ← e, live-sum (drop 8 file) s w q ∙ t)
+  body-sum false w e q t = rw (body-is, ← e, live-sum (drop 8 file) s w q ∙ t)
 
 -- ---- the file: from its header on
 pub file-refused : (file : List ℕ) (n : ℕ) → refused n ≡ headerOf file → refused n ≡ mapped sizes (matrixOf file)

@@ -1,7 +1,7 @@
 -- 01, "Files" and "The engine's no": the file of a matrix, and what checking, reading and writing one come to. Assumes nothing.
 use Prim.Native.Nat.{ℕ, _+_, _*_, _^_, _≤_}
 use mathlib.Core.Path.{_≡_}
-use mathlib.Core.Bool.{not}
+use mathlib.Core.Bool.{Bool, not}
 use mathlib.Core.List.{List, _++_}
 use lib.Dec.{eqb, ltb}
 use lib.ListN.{length, getD, take, drop}
@@ -80,13 +80,17 @@ writeHeaderOf m n room = do
 abbrev pub taken : ℕ → ℕ → List ℕ → Matrix
 taken m n entries = record { rows = m; columns = n; entries = take (m * n) entries }
 
+-- whether one of the first k entries is neither 0 nor 1
+abbrev pub aboveOne : ℕ → List ℕ → Bool
+aboveOne k entries = any k (λ i. ltb 1 (getD entries i 0))
+
 -- writing m rows and n columns, row after row in `entries`, into a buffer of `room` bytes: the file that is laid down
 unfoldable pub writeOf : ℕ → ℕ → List ℕ → ℕ → Outcome (List ℕ)
 writeOf m n entries room = do
   refuse 3 (outside most-rows m)
   refuse 3 (outside most-columns n)
   refuse 13 (ltb (length entries) (m * n))
-  refuse 5 (any (m * n) (λ i. ltb 1 (getD entries i 0)))
+  refuse 5 (aboveOne (m * n) entries)
   refuse 6 (ltb (2 ^ n) (total (taken m n entries)))
   refuse 13 (ltb room (fileLength m n))
   gives (matrixFile (taken m n entries))

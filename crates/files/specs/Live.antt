@@ -21,6 +21,10 @@ use Rattle.files.specs.Matrix.{ones-in}
 unfoldable pub total-from : (ℕ → ℕ → ℕ) → ℕ → ℕ → ℕ → ℕ
 total-from bit m c k = sumTo m (λ v. number (bit v) c k)
 
+-- whether T is at most 2^n, of m rows of n bits that are packed `per` to a byte, row v from byte v * stride on
+abbrev pub rowsFit : List ℕ → ℕ → ℕ → ℕ → ℕ → Bool
+rowsFit bytes per stride m n = leb (total-from (λ v. packedBit per bytes (v * stride)) m 0 n) (2 ^ n)
+
 -- whether k columns from column c on have room, with h places of the tree open before them
 unfoldable pub live : (ℕ → ℕ → ℕ) → ℕ → ℕ → ℕ → ℕ → Bool
 live bit m c h zero = true

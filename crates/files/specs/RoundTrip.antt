@@ -8,7 +8,7 @@ use borrow.Author.Tests.{le-ltb, ltb-false}
 use lib.Dec.{ltb}
 use lib.ListN.{length, getD, take, drop, length-drop, take-append-drop}
 use lib.Seq.{getD-drop, getD-take, length-take-le}
-use Rattle.laws.specs.Sums.{any, any-all, any-false}
+use Rattle.laws.specs.Sums.{any-all, any-false}
 use Rattle.laws.specs.Digits.{number, number-shift, number-digit, digit}
 use Rattle.laws.specs.Lay.{blocks, upto, lay, getD-blocks, length-blocks, getD-upto, table-ext, take-is, length-lay, take-lay, at-front}
 use Rattle.laws.specs.Outcome.{gives, refuse, _>>_, _>>=_, passed, bound, gives-inj}
@@ -18,7 +18,7 @@ use Rattle.fields.specs.Fields.{packed, packed-bit, length-packed, spare, spare
 use Rattle.fields.specs.Strings.{anySpare}
 use Rattle.files.specs.Matrix.{Matrix, sizes, sizesOutside, Accepted, bit, total, most-rows}
 use Rattle.files.specs.Files.{fileLength, headerBytes, rowBytes, matrixFile, headerOf, bodyOf, matrixOf}
-use Rattle.files.specs.Files.{unpacked, readOf, taken, writeOf}
+use Rattle.files.specs.Files.{unpacked, readOf, taken, aboveOne, writeOf}
 use Rattle.files.specs.Matrices.{equal-bits, tabled-whole, tabled-bits}
 use Rattle.files.specs.Sizes.{sizes-inside, cell}
 use Rattle.files.specs.Checks.{header-gives, header-says, Read, matrix-read, unpacked-bit, read-room}
@@ -201,7 +201,7 @@ read-then-write file entries room M bytes e h =
         let sized = accepted-sizes M ok in
         let back = again M entries (ok .whole) in
         let long : M .rows * M .columns ≤ length laid = rw (length-lay (M .entries) entries (omega (arith, ok .whole))) l in
-        let small : any (M .rows * M .columns) (λ i. ltb 1 (getD laid i 0)) ≡ false =
+        let small : aboveOne (M .rows * M .columns) laid ≡ false =
         any-all (M .rows * M .columns) (λ i. ltb 1 (getD laid i 0))
         (λ i k. le-ltb 1 (getD laid i 0) (rw (at-front (M .entries) entries i 0 (omega (arith, ok .whole))) (ok .bits i k))) in
         let sum : ltb (2 ^ M .columns) (total (taken (M .rows) (M .columns) laid)) ≡ false =
@@ -218,7 +218,7 @@ written-is m n entries file room e =
     let c1 = passed 3 (outside most-rows m) _ file e in
     let c2 = passed 3 (outside most-columns n) _ file (c1 .1) in
     let c3 = passed 13 (ltb (length entries) (m * n)) _ file (c2 .1) in
-    let c4 = passed 5 (any (m * n) (λ i. ltb 1 (getD entries i 0))) _ file (c3 .1) in
+    let c4 = passed 5 (aboveOne (m * n) entries) _ file (c3 .1) in
     let c5 = passed 6 (ltb (2 ^ n) (total (taken m n entries))) _ file (c4 .1) in
     let c6 = passed 13 (ltb room (fileLength m n)) _ file (c5 .1) in
     let r = within most-rows m (c1 .0) in

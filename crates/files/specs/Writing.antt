@@ -1,22 +1,22 @@
 -- The ways through the checks of a matrix that is written, and what is laid down. Assumes nothing.
 use Prim.Native.Nat.{ℕ, _+_, _-_, _*_, _/_, _%_, _^_, _≤_, _<_}
-use mathlib.Core.Path.{_≡_, refl, sym, ap, _∙_}
-use mathlib.Core.Bool.{Bool, true, false, not}
+use mathlib.Core.Path.{_≡_, refl, sym, _∙_}
+use mathlib.Core.Bool.{true, false, not}
 use mathlib.Core.List.{List, [], _++_}
 use native.Mathlib.Omega.{arith}
 use borrow.Author.Tests.{lt-ltb, le-ltb, ltb-false}
-use lib.Dec.{ltb, leb}
-use lib.ListN.{length, getD, take, length-append}
+use lib.Dec.{ltb}
+use lib.ListN.{length, getD, length-append}
 use lib.Seq.{getD-take}
-use Rattle.laws.specs.Sums.{any, any-false}
+use Rattle.laws.specs.Sums.{any-false}
 use Rattle.laws.specs.Digits.{digit}
 use Rattle.laws.specs.Lay.{Laid, laid-none, laid-after, blocks, blocks-eq, lay, layAt, layAt-after, lay-is, length-lay, length-blocks}
 use Rattle.laws.specs.Outcome.{Outcome, refused, gives, refuse, _>>_, mapped, laid, passed, gives-inj}
 use Rattle.laws.specs.Outcome.{mapped-gives, mapped-refused, mapped-then, ends-given}
 use Rattle.fields.specs.Fields.{fieldBytes, stored, stored-at, packedBit, packed, packed-eq, width, length-packed}
 use Rattle.files.specs.Matrix.{Matrix, sizesOutside, bit, total}
-use Rattle.files.specs.Live.{total-from}
-use Rattle.files.specs.Files.{fileLength, headerBytes, rowBytes, matrixFile, taken, writeHeaderOf, writeOf}
+use Rattle.files.specs.Live.{total-from, rowsFit}
+use Rattle.files.specs.Files.{fileLength, headerBytes, rowBytes, matrixFile, taken, aboveOne, writeHeaderOf, writeOf}
 use Rattle.files.specs.Sizes.{Sized, sizes-within, sizes-refuse, cell}
 use Rattle.files.specs.Checks.{total-is, not-above}
 
@@ -59,7 +59,7 @@ with-header m n room file a = rw (head-is m n room, a) (mapped-then (refuse 13 (
 module _ (m n : ℕ) (entries : List ℕ) (room : ℕ) where
   -- past the sizes, with the header's check for the last
   write-is : sizesOutside m n ≡ false → writeOf m n entries room ≡
-      (refuse 13 (ltb (length entries) (m * n)) >> (refuse 5 (any (m * n) (λ i. ltb 1 (getD entries i 0))) >>
+      (refuse 13 (ltb (length entries) (m * n)) >> (refuse 5 (aboveOne (m * n) entries) >>
       (refuse 6 (ltb (2 ^ n) (total (taken m n entries))) >> mapped (λ h. matrixFile (taken m n entries)) (writeHeaderOf m n room))))
   unfolding writeOf
   write-is a = sizes-refuse m n _ ∙ rw (a, with-header m n room (matrixFile (taken m n entries)) a)
@@ -73,10 +73,10 @@ module _ (m n : ℕ) (entries : List ℕ) (room : ℕ) where
     write-short c = rw (write-is a, lt-ltb (length entries) (m * n) c)
 
     module _ (c : m * n ≤ length entries) where
-      pub write-bit : any (m * n) (λ i. ltb 1 (getD entries i 0)) ≡ true → writeOf m n entries room ≡ refused 5
+      pub write-bit : aboveOne (m * n) entries ≡ true → writeOf m n entries room ≡ refused 5
       write-bit d = rw (write-is a, le-ltb (length entries) (m * n) c, d)
 
-      module _ (d : any (m * n) (λ i. ltb 1 (getD entries i 0)) ≡ false) where
+      module _ (d : aboveOne (m * n) entries ≡ false) where
         pub write-rest : ltb (2 ^ n) (total (taken m n entries)) ≡ false →
             writeOf m n entries room ≡ mapped (λ h. matrixFile (taken m n entries)) (writeHeaderOf m n room)
         write-rest e = rw (write-is a, le-ltb (length entries) (m * n) c, d, e)
@@ -89,7 +89,7 @@ entry-bit entries at c h =
     let shift : 1 - 1 - c % 1 ≡ 0 = omega arith in
     rw (place, shift) (omega arith)
 
-pub no-entry-above : (k : ℕ) (entries : List ℕ) → any k (λ i. ltb 1 (getD entries i 0)) ≡ false → (i : ℕ) → i < k → getD entries i 0 ≤ 1
+pub no-entry-above : (k : ℕ) (entries : List ℕ) → aboveOne k entries ≡ false → (i : ℕ) → i < k → getD entries i 0 ≤ 1
 no-entry-above k entries e i h = ltb-false 1 (getD entries i 0) (any-false k i (λ i. ltb 1 (getD entries i 0)) e h)
 
 module _ (m n : ℕ) (entries : List ℕ) where
@@ -98,14 +98,12 @@ module _ (m n : ℕ) (entries : List ℕ) where
   taken-bit v c h l = getD-take (m * n) entries (v * n + c) 0 (cell v m n c h l)
 
   -- the live test of the entries is refusal 6's
-  pub entries-sum : (r : Bool) → any (m * n) (λ i. ltb 1 (getD entries i 0)) ≡ false →
-      r ≡ leb (total-from (λ v. packedBit 1 entries (v * n)) m 0 n) (2 ^ n) → ltb (2 ^ n) (total (taken m n entries)) ≡ not r
-  entries-sum r none q =
+  pub entries-sum : aboveOne (m * n) entries ≡ false → ltb (2 ^ n) (total (taken m n entries)) ≡ not (rowsFit entries 1 n m n)
+  entries-sum none =
       let ok = no-entry-above (m * n) entries none in
-      let t : total (taken m n entries) ≡ total-from (λ v. packedBit 1 entries (v * n)) m 0 n =
-      total-is (taken m n entries) (λ v. packedBit 1 entries (v * n))
-      (λ v c h l. taken-bit v c h l ∙ sym (entry-bit entries (v * n) c (ok (v * n + c) (cell v m n c h l)))) in
-      rw (t, q) (not-above (total-from (λ v. packedBit 1 entries (v * n)) m 0 n) (2 ^ n))
+      rw (total-is (taken m n entries) (λ v. packedBit 1 entries (v * n))
+      (λ v c h l. taken-bit v c h l ∙ sym (entry-bit entries (v * n) c (ok (v * n + c) (cell v m n c h l)))))
+      (not-above (total-from (λ v. packedBit 1 entries (v * n)) m 0 n) (2 ^ n))
 
 -- ---- what is laid down
 pub header-laid : (file x1 x2 x3 x4 : List ℕ) (len m n : ℕ) → x1 ≡ stored file 0 len → x2 ≡ stored x1 2 32 → x3 ≡ stored x2 4 m →
@@ -190,17 +188,16 @@ module _ (M : Matrix) (o : Outcome (List ℕ)) (room : ℕ) (file : List ℕ) (a
       (file-laid M f file now now′ (omega (arith, h .room-is)) bits (rw (h .is) at (w .1)) r)
 
 pub write-sum : (m n : ℕ) (entries : List ℕ) (room : ℕ) → sizesOutside m n ≡ false → m * n ≤ length entries →
-    any (m * n) (λ i. ltb 1 (getD entries i 0)) ≡ false → not (leb (total-from (λ v. packedBit 1 entries (v * n)) m 0 n) (2 ^ n)) ≡ true →
-    writeOf m n entries room ≡ refused 6
+    aboveOne (m * n) entries ≡ false → not (rowsFit entries 1 n m n) ≡ true → writeOf m n entries room ≡ refused 6
 write-sum m n entries room a c d e =
-    rw (write-is m n entries room a, le-ltb (length entries) (m * n) c, d, entries-sum m n entries _ d refl ∙ e)
+    rw (write-is m n entries room a, le-ltb (length entries) (m * n) c, d, entries-sum m n entries d ∙ e)
 
 -- the same of entries that have passed their checks
 module _ (m n : ℕ) (entries : List ℕ) (room : ℕ) (file : List ℕ) (all : room ≡ length file) (a : sizesOutside m n ≡ false)
-    (c : m * n ≤ length entries) (d : any (m * n) (λ i. ltb 1 (getD entries i 0)) ≡ false)
-    (e : not (leb (total-from (λ v. packedBit 1 entries (v * n)) m 0 n) (2 ^ n)) ≡ false) where
+    (c : m * n ≤ length entries) (d : aboveOne (m * n) entries ≡ false)
+    (e : not (rowsFit entries 1 n m n) ≡ false) where
   passes : writeOf m n entries room ≡ mapped (λ h. matrixFile (taken m n entries)) (writeHeaderOf m n room)
-  passes = write-rest m n entries room a c d (entries-sum m n entries _ d refl ∙ e)
+  passes = write-rest m n entries room a c d (entries-sum m n entries d ∙ e)
 
   pub write-unheaded : (k : ℕ) (now : List ℕ) → Head m n room file (refused k) now → Wrote (writeOf m n entries room) file (refused k) now
   write-unheaded = ends-unheaded (taken m n entries) (writeOf m n entries room) room file all passes

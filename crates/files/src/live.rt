@@ -1,11 +1,9 @@
 // Whether a matrix's rows sum to at most 2^n, with no number larger than the rows (01, "Misreadings to shut out": not in 64 bits).
 ghost use mathlib.Core.Path.{_≡_};
-ghost use Prim.Native.Nat.{ℕ, _+_, _*_, _/_, _^_, _≤_, _<_};
-ghost use lib.Dec.{leb};
+ghost use Prim.Native.Nat.{ℕ, _+_, _*_, _/_, _≤_, _<_};
 ghost use lib.ListN.{length};
 ghost use Rattle.laws.specs.Sums.{sumTo};
-ghost use Rattle.fields.specs.Fields.{packedBit};
-ghost use Rattle.files.specs.Live.{strided, total-from};
+ghost use Rattle.files.specs.Live.{rowsFit, strided};
 use fields::lesser;
 
 // How many of the m bytes at first, first + stride, .. have bit `shift` set.
@@ -26,7 +24,7 @@ pub(crate) fn fits(bytes: &[u8], per: usize, stride: usize, m: usize, n: usize) 
     requires { ⌜ (
         (0 < per) × (per ≤ 8) × (1 ≤ m) × (m ≤ 65535) × ((v c : ℕ) → v < m → c < n → c / per + v * stride < length (now bytes))
         ) ⌝ }
-    ensures { λ r. ⌜ r ≡ leb (total-from (λ v. packedBit per (now (bytes .entry)) (v * stride)) m 0 n) (2 ^ n) ⌝ }
+    ensures { λ r. ⌜ r ≡ rowsFit (now (bytes .entry)) per stride m n ⌝ }
 {
     let mut h: usize = 1;
     for c in 0..n {

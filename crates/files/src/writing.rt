@@ -2,9 +2,7 @@
 ghost use mathlib.Core.Path.{_≡_};
 ghost use mathlib.Core.Bool.{false};
 ghost use Prim.Native.Nat.{ℕ, _+_, _*_, _≤_, _<_};
-ghost use lib.Dec.{ltb};
 ghost use lib.ListN.{length, getD};
-ghost use Rattle.laws.specs.Sums.{any};
 ghost use Rattle.laws.specs.Digits.{number};
 ghost use Rattle.laws.specs.Lay.{blocks, lay, layAt};
 ghost use Rattle.laws.specs.Outcome.{laid, mapped};
@@ -12,7 +10,7 @@ ghost use Rattle.fields.specs.Refusal.{written};
 ghost use Rattle.fields.specs.Limits.{most-columns};
 ghost use Rattle.fields.specs.Fields.{packed, padded, width};
 ghost use Rattle.files.specs.Matrix.{most-rows};
-ghost use Rattle.files.specs.Files.{writeOf};
+ghost use Rattle.files.specs.Files.{aboveOne, writeOf};
 use crate::headers::sizes_outside;
 use crate::headers::write_header;
 use crate::live::fits;
@@ -23,7 +21,7 @@ use fields::width;
 // Whether any of the first n entries is neither 0 nor 1.
 fn any_above_one(entries: &[u8], n: usize) -> bool
     requires { ⌜ n ≤ length (now entries) ⌝ }
-    ensures { λ r. ⌜ r ≡ any n (λ i. ltb 1 (getD (now (entries .entry)) i 0)) ⌝ }
+    ensures { λ r. ⌜ r ≡ aboveOne n (now (entries .entry)) ⌝ }
 {
     for i in 0..n {
         if 1 < entries[i] {
@@ -71,7 +69,7 @@ fn pack_row(entries: &[u8], from: usize, n: usize, file: &mut [u8], at: usize)
 fn pack_rows(entries: &[u8], m: usize, n: usize, file: &mut [u8])
     requires { ⌜ (
         (m ≤ most-rows) × (n ≤ most-columns) × (m * n ≤ length (now entries)) × (8 + m * width n ≤ length (now file)) ×
-        (any (m * n) (λ i. ltb 1 (getD (now entries) i 0)) ≡ false)
+        (aboveOne (m * n) (now entries) ≡ false)
         ) ⌝ }
     ensures { λ _. ⌜ (
         now (file .exit) ≡

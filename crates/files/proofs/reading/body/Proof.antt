@@ -1,9 +1,8 @@
 -- `files::body` meets its contract: the rows as strings, then their sum. Assumes nothing.
 use borrow.Author.Needs.{needs}
-use mathlib.Core.Path.{_∙_}
 use mathlib.Core.Bool.{true, false}
 use Rattle.laws.specs.Lay.{rest-is}
-use Rattle.files.specs.Checks.{row-bytes, body-refused, body-sum, live-sum}
+use Rattle.files.specs.Checks.{row-bytes, body-refused, body-sum}
 use Rattle.files.proofs.reading.body.Statement.{statement}
 use Rattle.files.proofs.reading.body.Tie as tie
 
@@ -42,8 +41,9 @@ returns c =
     let sound = c .before .before .before in
     let strings = sound .before .before in
     let pre = strings .before .before .before .pre in
-    body-sum _ _ pre true (rw (rest-is, sound .enum-told .given .1) at (strings .check-strings .ensures))
-    (live-sum _ _ _ _ (c .before .before .width .ensures) (rw rest-is at (c .before .fits2 .ensures)) ∙ c .if1 .taken)
+    let fits = rw rest-is at (c .before .fits2 .ensures) in
+    body-sum _ _ pre true _ (rw (rest-is, sound .enum-told .given .1) at (strings .check-strings .ensures))
+    (c .before .before .width .ensures) (rw fits at (c .if1 .taken))
 
 returns-2 : tie.Need-returns-2
 returns-2 c =
@@ -56,8 +56,9 @@ returns-3 c =
     let sound = c .before .before .before in
     let strings = sound .before .before in
     let pre = strings .before .before .before .pre in
-    body-sum _ _ pre false (rw (rest-is, sound .enum-told .given .1) at (strings .check-strings .ensures))
-    (live-sum _ _ _ _ (c .before .before .width .ensures) (rw rest-is at (c .before .fits2 .ensures)) ∙ c .if1 .left)
+    let fits = rw rest-is at (c .before .fits2 .ensures) in
+    body-sum _ _ pre false _ (rw (rest-is, sound .enum-told .given .1) at (strings .check-strings .ensures))
+    (c .before .before .width .ensures) (rw fits at (c .if1 .left))
 
 pub body-spec : {M : Type 1} → statement M
 body-spec =
