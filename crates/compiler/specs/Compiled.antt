@@ -13,8 +13,8 @@ use Rattle.files.specs.Matrix.{Matrix, Accepted, bit}
 use Rattle.files.specs.Files.{matrixOf}
 use Rattle.files.specs.RoundTrip.{read-accepted}
 use Rattle.programs.specs.Limits.{most-registers, most-inputs, most-outputs, most-instructions, among, within}
-use Rattle.machine.specs.Checks.{checkOf}
-use Rattle.machine.specs.Accepting.{Sound, accepted}
+use Rattle.checker.specs.Checks.{checkOf}
+use Rattle.checker.specs.Accepting.{Sound, accepted}
 use Rattle.compiler.specs.Translation.{rowBits, begin, end, column, translation, program, compiled, compileOf}
 use Rattle.compiler.specs.Width.{few-bits}
 use Rattle.compiler.specs.Room.{accepted-roomy}

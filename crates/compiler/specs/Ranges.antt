@@ -11,7 +11,7 @@ use Rattle.laws.specs.Each.{Each, each-append, each-blocks}
 use Rattle.files.specs.Live.{weight}
 use Rattle.programs.specs.declared.description.Instruction.{Instruction}
 use Rattle.programs.specs.declared.description.Instruction.the-variants.{Or, Output}
-use Rattle.machine.specs.Accepting.{Fits, Sets, sets-left, sets-right}
+use Rattle.checker.specs.Accepting.{Fits, Sets, sets-left, sets-right}
 use Rattle.compiler.specs.Translation.{regV, regY, clear, begin, apart, split, ifSet, spell, mark, met, marks, carry, keep, tell, end, liveBefore, column}
 use Rattle.compiler.specs.Room.{Roomy, live-le, live-next}
 

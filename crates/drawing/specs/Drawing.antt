@@ -18,9 +18,9 @@ use Rattle.programs.specs.Reading.{Within, within-means}
 use Rattle.programs.specs.Inverse.{header-reads}
 use Rattle.programs.specs.declared.description.Program.{Program}
 use Rattle.machine.specs.Meaning.{Gates, words, exec-long}
-use Rattle.machine.specs.Checks.{Code, checkOf}
+use Rattle.checker.specs.Checks.{Code, checkOf}
 use Rattle.machine.specs.Runs.{Ended, runOf, startOn, startOf}
-use Rattle.machine.specs.Checking.{check-refused, check-says}
+use Rattle.checker.specs.Checking.{check-refused, check-says}
 use Rattle.machine.specs.LaneLaw.{start-inputs, start-forgets-enough}
 use Rattle.machine.specs.Resuming.{Room, Enough, cleared, start-is, admitted-gives}
 use Rattle.machine.specs.declared.runs.Run.{Run}

@@ -23,7 +23,7 @@ use Rattle.programs.specs.Records.{recordBytes}
 use Rattle.programs.specs.Instructions.{instructionBytes, decodeOf, sizedOf}
 use Rattle.programs.specs.Header.{codeBytes, programFile, headerOf as programHeaderOf, headerBytes as programHeader, numbersOf as programNumbers}
 use Rattle.machine.specs.Meaning.{exec}
-use Rattle.machine.specs.Checks.{checkOf, codeOf, instructionOf, also}
+use Rattle.checker.specs.Checks.{checkOf, codeOf, instructionOf, also}
 use Rattle.machine.specs.Runs.{startOf, startOn, runOf}
 use Rattle.machine.specs.declared.runs.Run.{Run}
 use Rattle.compiler.specs.Translation.{bitsToWrite, rowBits, begin, split, ifSet, mark, met, marks, keep, end, liveBefore, column, translation, program, compiled, compileOf}

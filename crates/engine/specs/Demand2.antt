@@ -10,7 +10,7 @@ use Rattle.files.specs.Matrix.{Matrix}
 use Rattle.files.specs.Files.{matrixOf}
 use Rattle.files.specs.RoundTrip.{read-accepted}
 use Rattle.machine.specs.Meaning.{words}
-use Rattle.machine.specs.Checks.{checkOf}
+use Rattle.checker.specs.Checks.{checkOf}
 use Rattle.machine.specs.Runs.{Ended, startOf}
 use Rattle.machine.specs.Resuming.{started, onward, start-onward, Chain, start-chain, together, total}
 use Rattle.walk.specs.Walk.{drawn, answerOf}

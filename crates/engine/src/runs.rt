@@ -5,7 +5,7 @@ ghost use lib.ListN;
 ghost use Rattle.laws.specs.Lay.{lay};
 ghost use Rattle.laws.specs.Outcome.{laid};
 ghost use Rattle.compiler.specs.Translation.{compileOf};
-ghost use Rattle.machine.specs.Checks.{checkOf};
+ghost use Rattle.checker.specs.Checks.{checkOf};
 ghost use Rattle.machine.specs.Runs.{resumeOf, startOf};
 ghost use Rattle.engine.specs.Calls.{returned, told};
 use files::Written;
@@ -44,7 +44,7 @@ pub extern "C" fn corkhollow_check(
     ensures { λ r. ⌜ now (outputs .exit) ≡ told (λ c. c .program .outputs) (checkOf (now (program .entry))) (now (outputs .entry)) ⌝ }
     ensures { λ r. ⌜ now (count .exit) ≡ told (λ c. c .program .count) (checkOf (now (program .entry))) (now (count .entry)) ⌝ }
 {
-    match machine::check(program) {
+    match checker::check(program) {
         Checked::Refused(why) => number(why),
         Checked::Program(p) => {
             *registers = p.registers;

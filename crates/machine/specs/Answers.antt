@@ -16,11 +16,11 @@ use Rattle.programs.specs.Header.{header-length}
 use Rattle.programs.specs.declared.description.Program.{Program}
 use Rattle.programs.specs.declared.description.Instruction.{Instruction}
 use Rattle.machine.specs.Meaning.{words, exec-long}
-use Rattle.machine.specs.Checks.{Code, every, also, inRange, instructionOf, codeOf, nothing, checkOf}
+use Rattle.checker.specs.Checks.{Code, every, also, inRange, instructionOf, codeOf, nothing, checkOf}
 use Rattle.machine.specs.Runs.{Ended, steps, runOf, roomFor, startOn, resumeOn, startOf, resumeOf}
-use Rattle.machine.specs.Standing.{readOf, Formed}
+use Rattle.checker.specs.Standing.{readOf, Formed}
 use Rattle.machine.specs.Turns.{state, Ends}
-use Rattle.machine.specs.Checking.{range-means, range-wider, instruction-means, check-says}
+use Rattle.checker.specs.Checking.{range-means, range-wider, instruction-means, check-says}
 use Rattle.machine.specs.declared.runs.Run.{Run}
 
 -- ---- an accepted program stands in its bytes

@@ -19,10 +19,10 @@ use Rattle.programs.specs.declared.description.Program.{Program}
 use Rattle.programs.specs.declared.description.Instruction.{Instruction}
 use Rattle.programs.specs.declared.description.Instruction.the-variants.{Ones, Zero, Input, Not, And, Or, Output}
 use Rattle.machine.specs.Meaning.{Gates, words, bits, State, step, exec, step-long, exec-long}
-use Rattle.machine.specs.Checks.{Code, checkOf}
+use Rattle.checker.specs.Checks.{Code, checkOf}
 use Rattle.machine.specs.Runs.{Ended, steps, carried, runOf, startOn, resumeOn, startOf, resumeOf}
-use Rattle.machine.specs.Accepting.{OneOf, Fits, Ready, Sets, none, Sound}
-use Rattle.machine.specs.Encoding.{accepted-sound}
+use Rattle.checker.specs.Accepting.{OneOf, Fits, Ready, Sets, none, Sound}
+use Rattle.checker.specs.Encoding.{accepted-sound}
 use Rattle.machine.specs.Resuming.{Room, Enough, Holds, Sized, sized-cleared, sized-lent}
 use Rattle.machine.specs.Resuming.{cleared, lent, admitted, startRun, resumeRun, start-is, resume-is, start-whole, resume-whole}
 use Rattle.machine.specs.Resuming.{equal-lengths, both-enough, together, goneOn, start-continued, resume-continued}

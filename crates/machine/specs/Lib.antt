@@ -1,13 +1,8 @@
 -- The machine, in the order in which one rests on another.
 pub mod Meaning
-pub mod Checks
 pub mod Runs
 pub mod Fresh
-pub mod Standing
 pub mod Turns
-pub mod Checking
 pub mod Answers
-pub mod Accepting
-pub mod Encoding
 pub mod Resuming
 pub mod LaneLaw

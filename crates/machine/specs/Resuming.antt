@@ -17,9 +17,9 @@ use Rattle.programs.specs.Reading.{within-means}
 use Rattle.programs.specs.declared.description.Program.{Program}
 use Rattle.programs.specs.declared.description.Instruction.{Instruction}
 use Rattle.machine.specs.Meaning.{Gates, State, step, exec, exec-long}
-use Rattle.machine.specs.Checks.{Code, checkOf}
+use Rattle.checker.specs.Checks.{Code, checkOf}
 use Rattle.machine.specs.Runs.{Ended, steps, carried, answerOf, runOf, roomFor, startOn, resumeOn}
-use Rattle.machine.specs.Encoding.{accepted-sound}
+use Rattle.checker.specs.Encoding.{accepted-sound}
 use Rattle.machine.specs.declared.runs.Run.{Run}
 
 -- ---- two runs taken as one

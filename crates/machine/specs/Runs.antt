@@ -8,7 +8,7 @@ use Rattle.files.specs.Refusal.{numberOf}
 use Rattle.programs.specs.declared.description.Program.{Program}
 use Rattle.programs.specs.declared.description.Instruction.{Instruction}
 use Rattle.machine.specs.Meaning.{Gates, words, State, exec}
-use Rattle.machine.specs.Checks.{checkOf}
+use Rattle.checker.specs.Checks.{checkOf}
 use Rattle.machine.specs.declared.runs.Run.{Run}
 use Rattle.machine.specs.declared.runs.Ran.{Ran}
 use Rattle.machine.specs.declared.runs.Ran.the-variants as Ran

@@ -18,7 +18,7 @@ use Rattle.programs.specs.declared.description.Instruction.the-variants.{Ones, 
 use Rattle.machine.specs.Meaning.{words, State, step, exec}
 use Rattle.machine.specs.Runs.{steps, answerOf}
 use Rattle.machine.specs.declared.runs.Run.{Run}
-use Rattle.machine.specs.Standing.{InRange, onGives, readOf, Formed, formed-less, Known, Standing, Stands, Ready, Gate, read-first, some-ready, ready-room, is-ones, is-zero, is-input, is-not, is-and, is-or, is-output, formed-next, Four, one-passed, two-passed, three-passed, four-passed}
+use Rattle.checker.specs.Standing.{InRange, onGives, readOf, Formed, formed-less, Known, Standing, Stands, Ready, Gate, read-first, some-ready, ready-room, is-ones, is-zero, is-input, is-not, is-and, is-or, is-output, formed-next, Four, one-passed, two-passed, three-passed, four-passed}
 
 abbrev pub state : List ℕ → List ℕ → State ℕ
 state rs os = record { registers = rs; outputs = os }

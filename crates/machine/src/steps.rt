@@ -1,10 +1,10 @@
 // Instructions carried out on words, straight from their bytes (01, "Files").
 ghost use mathlib.Core.Path.{_≡_};
 ghost use mathlib.Core.Bool.{true};
-ghost use Prim.Native.Nat.{_+_, _*_, _≤_, _<_, min};
+ghost use Prim.Native.Nat.{_+_, _≤_, _<_, min};
 ghost use lib.ListN.{drop, length};
 ghost use Rattle.files.specs.Fields.{fieldOf};
-ghost use Rattle.machine.specs.Standing.{Formed, Four, Gate, Known, Ready, Standing};
+ghost use Rattle.checker.specs.Standing.{Formed, Four, Gate, Known, Ready, Standing};
 ghost use Rattle.machine.specs.Turns.{Along, andWords, Carried, Does, orWords};
 use programs::Instruction;
 
@@ -14,14 +14,6 @@ pub(crate) fn field_at(file: &[u8], at: usize) -> usize
     ensures { λ r. ⌜ (r ≡ fieldOf (now (file .entry)) at) × (r < 65536) ⌝ }
 {
     (file[at] as usize) + 256 * (file[at + 1] as usize)
-}
-
-// The 32-bit number at `at`, in bytes that hold it.
-pub(crate) fn wide_at(file: &[u8], at: usize) -> usize
-    requires { ⌜ at + 4 ≤ length (now file) ⌝ }
-    ensures { λ r. ⌜ (r ≡ fieldOf (now (file .entry)) at + 65536 * fieldOf (now (file .entry)) (at + 2)) × (fieldOf (now (file .entry)) at < 65536) ⌝ }
-{
-    field_at(file, at) + 65536 * field_at(file, at + 2)
 }
 
 pub(crate) fn lesser(a: usize, b: usize) -> usize

@@ -49,7 +49,7 @@ fn print_checked(answer: Checked) {
 pub(crate) fn check_case(line: &[u8]) {
     let mut program = [0u8; BYTES];
     let n = take_bytes(field(line, 1), &mut program);
-    print_checked(machine::check(&program[..n]));
+    print_checked(checker::check(&program[..n]));
 }
 
 // As many registers as the header of an accepted program names, and as many outputs.
@@ -184,7 +184,7 @@ fn take_program(line: &[u8], program: &mut [u8]) -> usize
 // FIRST MIDDLE times LAST
 pub(crate) fn long_check_case(line: &[u8], program: &mut [u8]) {
     let n = take_program(line, program);
-    print_checked(machine::check(&program[..n]));
+    print_checked(checker::check(&program[..n]));
 }
 
 // A hash with a run more: its numbers, registers and outputs.

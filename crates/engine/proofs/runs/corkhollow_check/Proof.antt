@@ -1,7 +1,7 @@
 -- `engine::corkhollow_check` meets its contract. Assumes nothing.
 use borrow.Author.Needs.{needs}
 use Rattle.programs.specs.declared.description.Program.{Program}
-use Rattle.machine.specs.Checks.{Code, checkOf}
+use Rattle.checker.specs.Checks.{Code, checkOf}
 use Rattle.engine.specs.Calls.{refused-returned, refused-told, given-returned, given-told}
 use Rattle.engine.proofs.runs.corkhollow_check.Statement.{statement}
 use Rattle.engine.proofs.runs.corkhollow_check.Tie as tie

@@ -3,7 +3,7 @@ use native.Mathlib.Omega.{arith}
 use mathlib.Core.Path.{sym, _∙_}
 use mathlib.Core.Bool.{true≢false}
 use borrow.Author.Tests.{eqb-true}
-use Rattle.machine.specs.Standing.{four-room, three-room, two-room, one-room}
+use Rattle.checker.specs.Standing.{four-room, three-room, two-room, one-room}
 use Rattle.machine.proofs.steps.four.Statement.{statement}
 use Rattle.machine.proofs.steps.four.Tie as tie
 

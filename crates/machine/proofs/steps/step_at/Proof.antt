@@ -1,7 +1,7 @@
 -- `machine::step_at` meets its contract: where an instruction is known to stand, its kind tells the rest. Assumes nothing.
 use borrow.Author.Needs.{needs}
 use native.Mathlib.Omega.{arith}
-use Rattle.machine.specs.Standing.{ready-room, second-room, is-ones, is-zero, is-input, is-not, is-and, is-or, is-output}
+use Rattle.checker.specs.Standing.{ready-room, second-room, is-ones, is-zero, is-input, is-not, is-and, is-or, is-output}
 use Rattle.machine.specs.Turns.{does-ones, does-zero, does-input, does-not, does-and, does-or, does-output}
 use Rattle.machine.proofs.steps.step_at.Statement.{statement}
 use Rattle.machine.proofs.steps.step_at.Tie as tie

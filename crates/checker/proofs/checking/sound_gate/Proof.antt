@@ -1,10 +1,10 @@
--- `machine::sound_gate` meets its contract. Assumes nothing.
+-- `checker::sound_gate` meets its contract. Assumes nothing.
 use borrow.Author.Needs.{needs}
-use Rattle.machine.specs.Checking.{sound}
+use Rattle.checker.specs.Checking.{sound}
 use mathlib.Core.Bool.{true≢false}
 use mathlib.Core.Path.{sym}
-use Rattle.machine.proofs.checking.sound_gate.Statement.{statement}
-use Rattle.machine.proofs.checking.sound_gate.Tie as tie
+use Rattle.checker.proofs.checking.sound_gate.Statement.{statement}
+use Rattle.checker.proofs.checking.sound_gate.Tie as tie
 
 add-field-at : tie.Need-add-field-at
 add-field-at c = search needs

@@ -20,9 +20,9 @@ use Rattle.programs.specs.Reading.{Within, within-means}
 use Rattle.programs.specs.Inverse.{header-reads, instruction-back, header-back}
 use Rattle.programs.specs.declared.description.Program.{Program}
 use Rattle.programs.specs.declared.description.Instruction.{Instruction}
-use Rattle.machine.specs.Checks.{Code, every, also, inRange, instructionOf, codeOf, nothing, checkOf}
-use Rattle.machine.specs.Checking.{check-says}
-use Rattle.machine.specs.Accepting.{OneOf, Fits, Ready, Sets, none, Sound, accepted}
+use Rattle.checker.specs.Checks.{Code, every, also, inRange, instructionOf, codeOf, nothing, checkOf}
+use Rattle.checker.specs.Checking.{check-says}
+use Rattle.checker.specs.Accepting.{OneOf, Fits, Ready, Sets, none, Sound, accepted}
 
 -- ---- what acceptance means in plain words
 -- instruction i stands at position k

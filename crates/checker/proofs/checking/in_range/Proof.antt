@@ -1,8 +1,8 @@
--- `machine::in_range` meets its contract: by the kind. Assumes nothing.
+-- `checker::in_range` meets its contract: by the kind. Assumes nothing.
 use borrow.Author.Needs.{needs}
-use Rattle.machine.specs.Checking.{range-ones, range-zero, range-input, range-not, range-and, range-or, range-output}
-use Rattle.machine.proofs.checking.in_range.Statement.{statement}
-use Rattle.machine.proofs.checking.in_range.Tie as tie
+use Rattle.checker.specs.Checking.{range-ones, range-zero, range-input, range-not, range-and, range-or, range-output}
+use Rattle.checker.proofs.checking.in_range.Statement.{statement}
+use Rattle.checker.proofs.checking.in_range.Tie as tie
 
 enum-known-i : tie.Need-enum-known-i
 enum-known-i c = search needs

@@ -1,8 +1,8 @@
--- `machine::mark_output` meets its contract: by the kind. Assumes nothing.
+-- `checker::mark_output` meets its contract: by the kind. Assumes nothing.
 use borrow.Author.Needs.{needs}
-use Rattle.machine.specs.Checking.{flags-none, flags-one}
-use Rattle.machine.proofs.checking.mark_output.Statement.{statement}
-use Rattle.machine.proofs.checking.mark_output.Tie as tie
+use Rattle.checker.specs.Checking.{flags-none, flags-one}
+use Rattle.checker.proofs.checking.mark_output.Statement.{statement}
+use Rattle.checker.proofs.checking.mark_output.Tie as tie
 
 enum-told : tie.Need-enum-told
 enum-told c = search needs

@@ -1,10 +1,10 @@
--- `machine::admit` meets its contract: the tests are those of the definition. Assumes nothing.
+-- `checker::admit` meets its contract: the tests are those of the definition. Assumes nothing.
 use borrow.Author.Needs.{needs}
 use borrow.Author.Tests.{not-true, not-false}
 use mathlib.Core.Path.{sym, _∙_}
-use Rattle.machine.specs.Checking.{range-limits, admit-refused, admit-operand, admit-unwritten, admit-gives}
-use Rattle.machine.proofs.checking.admit.Statement.{statement}
-use Rattle.machine.proofs.checking.admit.Tie as tie
+use Rattle.checker.specs.Checking.{range-limits, admit-refused, admit-operand, admit-unwritten, admit-gives}
+use Rattle.checker.proofs.checking.admit.Statement.{statement}
+use Rattle.checker.proofs.checking.admit.Tie as tie
 
 decode-requires : tie.Need-decode-requires
 decode-requires c κs = search needs

@@ -1,8 +1,8 @@
--- `machine::check` meets its contract: header first, then the body. Assumes nothing.
+-- `checker::check` meets its contract: header first, then the body. Assumes nothing.
 use borrow.Author.Needs.{needs}
-use Rattle.machine.specs.Checking.{check-refused, check-ready, check-body}
-use Rattle.machine.proofs.checking.check.Statement.{statement}
-use Rattle.machine.proofs.checking.check.Tie as tie
+use Rattle.checker.specs.Checking.{check-refused, check-ready, check-body}
+use Rattle.checker.proofs.checking.check.Statement.{statement}
+use Rattle.checker.proofs.checking.check.Tie as tie
 
 read-header-requires : tie.Need-read-header-requires
 read-header-requires c κs = search needs

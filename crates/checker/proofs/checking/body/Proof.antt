@@ -1,12 +1,12 @@
--- `machine::body` meets its contract: what is left from here is answered as the whole is. Assumes nothing.
+-- `checker::body` meets its contract: what is left from here is answered as the whole is. Assumes nothing.
 use borrow.Author.Needs.{needs}
 use native.Mathlib.Omega.{arith}
 use mathlib.Core.Path.{sym, refl, _∙_}
 use Rattle.programs.specs.Reading.{within-means}
-use Rattle.machine.specs.Checking.{Checking, checking-none, checking-admit, checking-passes, checking-refused}
-use Rattle.machine.specs.Checking.{checking-left, checking-unset, checking-done, admit-room, admit-limits}
-use Rattle.machine.proofs.checking.body.Statement.{statement}
-use Rattle.machine.proofs.checking.body.Tie as tie
+use Rattle.checker.specs.Checking.{Checking, checking-none, checking-admit, checking-passes, checking-refused}
+use Rattle.checker.specs.Checking.{checking-left, checking-unset, checking-done, admit-room, admit-limits}
+use Rattle.checker.proofs.checking.body.Statement.{statement}
+use Rattle.checker.proofs.checking.body.Tie as tie
 
 abbrev Inv-loop : tie.InvT-loop
 Inv-loop file p seen₀ at₀ more₀ seen at more = Checking file p more at (seen .written) (seen .set)

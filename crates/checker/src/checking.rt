@@ -8,13 +8,12 @@ ghost use Rattle.laws.specs.Outcome.{mapped};
 ghost use Rattle.programs.specs.Limits.{most-inputs, most-outputs, most-registers, within};
 ghost use Rattle.programs.specs.Instructions.{decoded, uses};
 ghost use Rattle.programs.specs.Header.{checked, header-length};
-ghost use Rattle.machine.specs.Checks.{checkOf, every, inRange, instructionOf, nothing};
-ghost use Rattle.machine.specs.Standing.{InRange};
-ghost use Rattle.machine.specs.Checking.{flagged, Flags, Passes, restOf, SoundGate};
-use crate::steps::Left;
-use crate::steps::field_at;
-use crate::steps::lesser;
-use crate::steps::wide_at;
+ghost use Rattle.checker.specs.Checks.{checkOf, every, inRange, instructionOf, nothing};
+ghost use Rattle.checker.specs.Standing.{InRange};
+ghost use Rattle.checker.specs.Checking.{flagged, Flags, Passes, restOf, SoundGate};
+use crate::fields::field_at;
+use crate::fields::lesser;
+use crate::fields::wide_at;
 use files::Refusal;
 use programs::Checked;
 use programs::Decoded;
@@ -130,6 +129,12 @@ fn sound_gate(
         return false;
     }
     written[a] & written[b]
+}
+
+// Where a check is: the byte of the next instruction, and how many are still to be tried.
+struct Left {
+    at: usize,
+    more: usize,
 }
 
 // The kinds that `gates` passes.

@@ -1,8 +1,8 @@
--- `machine::mark_register` meets its contract: by the kind. Assumes nothing.
+-- `checker::mark_register` meets its contract: by the kind. Assumes nothing.
 use borrow.Author.Needs.{needs}
-use Rattle.machine.specs.Checking.{flags-none, flags-one}
-use Rattle.machine.proofs.checking.mark_register.Statement.{statement}
-use Rattle.machine.proofs.checking.mark_register.Tie as tie
+use Rattle.checker.specs.Checking.{flags-none, flags-one}
+use Rattle.checker.proofs.checking.mark_register.Statement.{statement}
+use Rattle.checker.proofs.checking.mark_register.Tie as tie
 
 enum-known-i : tie.Need-enum-known-i
 enum-known-i c = search needs

@@ -22,7 +22,7 @@ use Rattle.programs.specs.Reading.{length-instruction, header-long}
 use Rattle.programs.specs.Inverse.{decode-written, header-written}
 use Rattle.programs.specs.declared.description.Program.{Program}
 use Rattle.programs.specs.declared.description.Instruction.{Instruction}
-use Rattle.machine.specs.Checks.{every, also, inRange, instructionOf, codeOf, nothing, checkOf}
+use Rattle.checker.specs.Checks.{every, also, inRange, instructionOf, codeOf, nothing, checkOf}
 
 -- ---- the judgment
 -- a number is one of the list's

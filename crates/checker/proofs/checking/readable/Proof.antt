@@ -1,8 +1,8 @@
--- `machine::readable` meets its contract: by the kind. Assumes nothing.
+-- `checker::readable` meets its contract: by the kind. Assumes nothing.
 use borrow.Author.Needs.{needs}
-use Rattle.machine.specs.Checking.{flagged, and-true}
-use Rattle.machine.proofs.checking.readable.Statement.{statement}
-use Rattle.machine.proofs.checking.readable.Tie as tie
+use Rattle.checker.specs.Checking.{flagged, and-true}
+use Rattle.checker.proofs.checking.readable.Statement.{statement}
+use Rattle.checker.proofs.checking.readable.Tie as tie
 
 enum-told : tie.Need-enum-told
 enum-told c = search needs

@@ -1,12 +1,12 @@
--- `machine::gates` meets its contract: what is left from here is answered as the whole is. Assumes nothing.
+-- `checker::gates` meets its contract: what is left from here is answered as the whole is. Assumes nothing.
 use borrow.Author.Needs.{needs}
 use native.Mathlib.Omega.{arith}
 use Prim.Native.Nat.{_+_, _-_, _*_, _≤_}
 use mathlib.Core.Path.{_≡_}
 use borrow.Author.Tests.{eqb-true}
-use Rattle.machine.specs.Checking.{Passes, passes-none, passes-gate, head-parts}
-use Rattle.machine.proofs.checking.gates.Statement.{statement}
-use Rattle.machine.proofs.checking.gates.Tie as tie
+use Rattle.checker.specs.Checking.{Passes, passes-none, passes-gate, head-parts}
+use Rattle.checker.proofs.checking.gates.Statement.{statement}
+use Rattle.checker.proofs.checking.gates.Tie as tie
 
 abbrev Inv-loop : tie.InvT-loop
 Inv-loop file from count kind registers written₀ head most at₀ done₀ written at done = Passes file registers count from written₀ (count - done) at written × (at ≡ from + 10 * done) × (done ≤ most)

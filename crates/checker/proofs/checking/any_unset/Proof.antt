@@ -1,12 +1,12 @@
--- `machine::any_unset` meets its contract: the outputs passed are set. Assumes nothing.
+-- `checker::any_unset` meets its contract: the outputs passed are set. Assumes nothing.
 use borrow.Author.Needs.{needs}
 use Prim.Native.Nat.{_-_, _≤_}
 use mathlib.Core.Path.{_≡_, sym}
 use mathlib.Core.Bool.{not, false}
 use Rattle.laws.specs.Sums.{any, any-none, any-more, any-found, any-done}
-use Rattle.machine.specs.Checking.{flagged}
-use Rattle.machine.proofs.checking.any_unset.Statement.{statement}
-use Rattle.machine.proofs.checking.any_unset.Tie as tie
+use Rattle.checker.specs.Checking.{flagged}
+use Rattle.checker.proofs.checking.any_unset.Statement.{statement}
+use Rattle.checker.proofs.checking.any_unset.Tie as tie
 
 abbrev Inv-loop : tie.InvT-loop
 Inv-loop set outputs o₀ o = (o ≤ outputs) × (any o (λ k. not (flagged set k)) ≡ false)

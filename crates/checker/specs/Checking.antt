@@ -23,8 +23,8 @@ use Rattle.programs.specs.Inverse.{field-drop, length-some, header-reads}
 use Rattle.programs.specs.declared.description.Program.{Program}
 use Rattle.programs.specs.declared.description.Instruction.{Instruction}
 use Rattle.programs.specs.declared.description.Instruction.the-variants.{Ones, Zero, Input, Not, And, Or, Output}
-use Rattle.machine.specs.Checks.{Code, every, also, inRange, instructionOf, codeOf, nothing, checkOf}
-use Rattle.machine.specs.Standing.{InRange, reads-stands}
+use Rattle.checker.specs.Checks.{Code, every, also, inRange, instructionOf, codeOf, nothing, checkOf}
+use Rattle.checker.specs.Standing.{InRange, reads-stands}
 
 -- what flags say
 unfoldable pub flagged : List Bool → ℕ → Bool

@@ -1,0 +1,6 @@
+-- The checker, in the order in which one rests on another.
+pub mod Checks
+pub mod Standing
+pub mod Checking
+pub mod Accepting
+pub mod Encoding
