@@ -1,20 +1,20 @@
--- What a program must be to be accepted, as a judgment on its instructions, with laws for lists of them: the checker's tests from the other side.
--- Assumes nothing.
+-- What a program must be to be accepted, as a judgment on its instructions, with laws for lists of them: the checker's tests from the other
+-- side. Assumes nothing.
 use Prim.Native.Nat.{ℕ, zero, suc, _+_, _<_}
 use mathlib.Core.Path.{_≡_, refl, sym, ap, _∙_}
-use mathlib.Core.Bool.{Bool, true, false, not, _||_}
+use mathlib.Core.Bool.{Bool, true, false, not, _||_, or-true}
 use mathlib.Core.List.{List, [], _∷_, _++_}
-use mathlib.Core.Logic.{_⊎_, inl, inr, ⊎-elim}
+use mathlib.Core.Logic.{_⊎_, inl, inr, ⊎-elim, ⊎-map}
 use native.Mathlib.Omega.{arith}
-use borrow.Author.Tests.{lt-ltb, eq-eqb}
-use lib.Dec.{eqb, ltb}
+use borrow.Author.Tests.{eq-eqb, eqb-true}
+use lib.Dec.{eqb}
 use lib.ListN.{length, drop}
 use lib.Seq.{drop-at}
-use Rattle.laws.specs.Tests.{never}
 use Rattle.laws.specs.Sums.{any-all}
 use Rattle.laws.specs.Lay.{blocks}
 use Rattle.laws.specs.Outcome.{gives}
 use Rattle.laws.specs.Each.{Each, each-more}
+use Rattle.laws.specs.Every.{every, each-every, OneOf}
 use Rattle.programs.specs.Limits.{within}
 use Rattle.programs.specs.Instructions.{uses, lengthOf, instructionBytes, decodeOf}
 use Rattle.programs.specs.Header.{header-length, headerBytes, codeBytes, programFile}
@@ -22,19 +22,14 @@ use Rattle.programs.specs.Reading.{length-instruction, header-long}
 use Rattle.programs.specs.Inverse.{decode-written, header-written}
 use Rattle.programs.specs.declared.description.Program.{Program}
 use Rattle.programs.specs.declared.description.Instruction.{Instruction}
-use Rattle.checker.specs.Checks.{every, also, inRange, instructionOf, codeOf, nothing, checkOf}
+use Rattle.checker.specs.Checks.{also, inRange, instructionOf, codeOf, nothing, checkOf}
+use Rattle.checker.specs.Standing.{InRange}
+use Rattle.checker.specs.Checking.{range-holds}
 
 -- ---- the judgment
--- a number is one of the list's
-abbrev pub OneOf : List ℕ → ℕ → Type 0
-OneOf [] x = ⊥
-OneOf (y ∷ ys) x = (x ≡ y) ⊎ OneOf ys x
-
 -- each operand is below its count
 abbrev pub Fits : Program → Instruction → Type 0
-Fits p i =
-    Each (λ r. r < p .registers) (uses i .writes) × Each (λ r. r < p .registers) (uses i .reads) ×
-    Each (λ n. n < p .inputs) (uses i .takes) × Each (λ o. o < p .outputs) (uses i .sets)
+Fits p i = InRange (p .registers) (p .inputs) (p .outputs) i
 
 -- where the registers of W are written before, each instruction reads only what is written, and those of U are written after
 abbrev pub Ready : (ℕ → Type 0) → List Instruction → (ℕ → Type 0) → Type 0
@@ -65,7 +60,7 @@ ready-more [] W Z U f e = λ r u. f r (e r u)
 ready-more (i ∷ is) W Z U f e = (
   each-more W Z (uses i .reads) f (e .0),
   ready-more is (λ r. OneOf (uses i .writes) r ⊎ W r) (λ r. OneOf (uses i .writes) r ⊎ Z r) U
-      (λ r x. ⊎-elim (λ (y : OneOf (uses i .writes) r). inl y) (λ (y : W r). inr (f r y)) x) (e .1),
+      (λ r x. ⊎-map (λ y. y) (f r) x) (e .1),
 )
 
 -- with less asked for after
@@ -81,7 +76,8 @@ pub ready-blocks : (I : ℕ → ℕ → Type 0) (f : ℕ → List Instruction) (
     Ready (I 0) (blocks n f) (I n)
 unfolding blocks
 ready-blocks I f zero g = λ r x. x
-ready-blocks I f (suc n) g = ready-append (blocks n f) (f n) (I 0) (I n) (I (suc n)) (ready-blocks I f n (λ i l. g i (omega arith))) (g n (omega arith))
+ready-blocks I f (suc n) g =
+    ready-append (blocks n f) (f n) (I 0) (I n) (I (suc n)) (ready-blocks I f n (λ i l. g i (omega arith))) (g n (omega arith))
 
 -- what is written stays written
 pub ready-stay : (W : ℕ → Type 0) (is : List Instruction) → Each (λ i. Each W (uses i .reads)) is → Ready W is W
@@ -98,47 +94,27 @@ sets-right o [] js x = x
 sets-right o (i ∷ is) js x = inr (sets-right o is js x)
 
 -- ---- the checker's tests
-every-true : (t : ℕ → Bool) (P : ℕ → Type 0) (xs : List ℕ) → ((x : ℕ) → P x → t x ≡ true) → Each P xs → every t xs ≡ true
-every-true t P [] f e = refl
-every-true t P (x ∷ xs) f e = rw (f x (e .0), every-true t P xs f (e .1))
-
-below : (n : ℕ) (xs : List ℕ) → Each (λ x. x < n) xs → every (λ x. ltb x n) xs ≡ true
-below n xs e = every-true (λ x. ltb x n) (λ x. x < n) xs (λ x l. lt-ltb x n l) e
-
-fits-range : (p : Program) (i : Instruction) → Fits p i → inRange p i ≡ true
-fits-range p i f =
-    rw (
-      below (p .registers) (uses i .writes) (f .0),
-      below (p .registers) (uses i .reads) (f .1),
-      below (p .inputs) (uses i .takes) (f .2),
-      below (p .outputs) (uses i .sets) (f .3),
-    )
-
-or-left : (a b : Bool) → a ≡ true → (a || b) ≡ true
-or-left true b e = refl
-or-left false b e = never e
-
-or-right : (a b : Bool) → b ≡ true → (a || b) ≡ true
-or-right true b e = refl
-or-right false b e = e
-
-also-old : (t : ℕ → Bool) (xs : List ℕ) (r : ℕ) → t r ≡ true → also t xs r ≡ true
+-- a list adds its numbers to a test, and nothing else
+also-holds : (t : ℕ → Bool) (xs : List ℕ) (r : ℕ) → OneOf xs r ⊎ (t r ≡ true) → also t xs r ≡ true
 unfolding also
-also-old t [] r e = e
-also-old t (x ∷ xs) r e = or-right (eqb x r) (also t xs r) (also-old t xs r e)
+also-holds t [] r (inl e) = absurd e
+also-holds t [] r (inr e) = e
+also-holds t (x ∷ xs) r (inl (inl e)) = rw (eq-eqb x r (sym e))
+also-holds t (x ∷ xs) r (inl (inr e)) = rw (also-holds t xs r (inl e), or-true)
+also-holds t (x ∷ xs) r (inr e) = rw (also-holds t xs r (inr e), or-true)
 
-also-new : (t : ℕ → Bool) (xs : List ℕ) (r : ℕ) → OneOf xs r → also t xs r ≡ true
+pub also-says : (t : ℕ → Bool) (xs : List ℕ) (r : ℕ) → also t xs r ≡ true → OneOf xs r ⊎ (t r ≡ true)
 unfolding also
-also-new t [] r e = absurd e
-also-new t (x ∷ xs) r (inl e) = or-left (eqb x r) (also t xs r) (eq-eqb x r (sym e))
-also-new t (x ∷ xs) r (inr e) = or-right (eqb x r) (also t xs r) (also-new t xs r e)
+also-says t [] r e = inr e
+also-says t (x ∷ xs) r e = first (eqb x r) refl (λ q. also-says t xs r q) e
+  where
+    first : (b : Bool) → eqb x r ≡ b → (also t xs r ≡ true → OneOf xs r ⊎ (t r ≡ true)) → (b || also t xs r) ≡ true →
+        OneOf (x ∷ xs) r ⊎ (t r ≡ true)
+    first true q later e = inl (inl (sym (eqb-true x r q)))
+    first false q later e = ⊎-map (λ y. inr y) (λ y. y) (later e)
 
-also-either : (t : ℕ → Bool) (P : Type 0) (xs : List ℕ) (r : ℕ) → (P → t r ≡ true) → OneOf xs r ⊎ P → also t xs r ≡ true
-also-either t P xs r f (inl e) = also-new t xs r e
-also-either t P xs r f (inr e) = also-old t xs r (f e)
-
-code-step : (n : ℕ) (p : Program) (written set : ℕ → Bool) (bytes : List ℕ) (i : Instruction) (is : List Instruction) → decodeOf bytes ≡ gives i →
-    inRange p i ≡ true → every written (uses i .reads) ≡ true →
+code-step : (n : ℕ) (p : Program) (written set : ℕ → Bool) (bytes : List ℕ) (i : Instruction) (is : List Instruction) →
+    decodeOf bytes ≡ gives i → inRange p i ≡ true → every written (uses i .reads) ≡ true →
     codeOf n p (also written (uses i .writes)) (also set (uses i .sets)) (drop (lengthOf i) bytes) ≡ gives is →
     codeOf (suc n) p written set bytes ≡ gives (i ∷ is)
 unfolding codeOf instructionOf
@@ -156,16 +132,16 @@ unfolding codeBytes
 code-accepted [] p W written set w s f e =
     code-none p written set (λ o l. ⊎-elim (λ (x : ⊥). absurd x) (λ (x : set o ≡ true). x) (s o l))
 code-accepted (i ∷ is) p W written set w s f e =
-    code-step (length is) p written set (instructionBytes i ++ codeBytes is) i is (decode-written i (codeBytes is)) (fits-range p i (f .0))
-    (every-true written W (uses i .reads) w (e .0))
+    code-step (length is) p written set (instructionBytes i ++ codeBytes is) i is (decode-written i (codeBytes is)) (range-holds p i (f .0))
+    (each-every written W (uses i .reads) w (e .0))
     (rw (drop-at (instructionBytes i) (codeBytes is) (lengthOf i) (length-instruction i))
     (code-accepted is p (λ r. OneOf (uses i .writes) r ⊎ W r) (also written (uses i .writes)) (also set (uses i .sets))
-    (λ r x. also-either written (W r) (uses i .writes) r (w r) x) (λ o l. later o (s o l)) (f .1) (e .1)))
+    (λ r x. also-holds written (uses i .writes) r (⊎-map (λ y. y) (w r) x)) (λ o l. later o (s o l)) (f .1) (e .1)))
   where
     later : (o : ℕ) → (OneOf (uses i .sets) o ⊎ Sets o is) ⊎ (set o ≡ true) → Sets o is ⊎ (also set (uses i .sets) o ≡ true)
-    later o (inl (inl x)) = inr (also-new set (uses i .sets) o x)
+    later o (inl (inl x)) = inr (also-holds set (uses i .sets) o (inl x))
     later o (inl (inr x)) = inl x
-    later o (inr x) = inr (also-old set (uses i .sets) o x)
+    later o (inr x) = inr (also-holds set (uses i .sets) o (inr x))
 
 -- a sound program is accepted, and the checker reads it as it is
 module _ (p : Program) (is : List Instruction) (s : Sound p is) where

@@ -1,30 +1,32 @@
 -- The turns of a check that marks what it has seen: what is left from here is answered as the whole is. Assumes nothing.
 use Prim.Native.Nat.{ℕ, zero, suc, _+_, _-_, _*_, _≤_, _<_}
 use mathlib.Core.Path.{_≡_, refl, sym, ap, _∙_, fun-ext}
-use mathlib.Core.Bool.{Bool, true, false, not, _&&_, _||_}
+use mathlib.Core.Bool.{Bool, true, false, not, _&&_, _||_, and-true, and-assoc}
 use mathlib.Core.List.{List, [], _∷_}
 use mathlib.Core.Logic.{⊎-elim}
 use native.Mathlib.Decide.{ℕ-discrete}
 use native.Mathlib.Nat.{eq-or-lt-of-le}
 use native.Mathlib.Omega.{arith}
-use borrow.Author.Tests.{lt-ltb, le-ltb, ltb-true, eq-eqb, ne-eqb, not-false}
+use borrow.Author.Tests.{lt-ltb, le-ltb, eq-eqb, ne-eqb, not-false}
 use lib.Dec.{ltb, eqb}
 use lib.ListN.{length, getD, set, drop, length-drop, length-set, replicate, length-replicate}
 use lib.Seq.{drop-drop, getD-set-same, getD-set-other}
 use Rattle.laws.specs.Tests.{both}
 use Rattle.laws.specs.Sums.{any}
-use Rattle.laws.specs.Outcome.{Outcome, refused, gives, refuse, _>>_, _>>=_, mapped, passed, bound, gives-inj}
+use Rattle.laws.specs.Each.{each-more}
+use Rattle.laws.specs.Every.{every, every-below}
+use Rattle.laws.specs.Outcome.{Outcome, refused, gives, refuse, _>>_, _>>=_, mapped, passed, bound, gives-inj, bind-is, mapped-mapped}
 use Rattle.files.specs.Fields.{fieldOf}
 use Rattle.programs.specs.Limits.{most-registers, most-inputs, most-outputs, within, unwritten, unset}
-use Rattle.programs.specs.Instructions.{uses, lengthOf, ofKind, sizedOf, decodeOf, decodeAt}
+use Rattle.programs.specs.Instructions.{uses, lengthOf, sizedOf, decodeOf, decodeAt}
 use Rattle.programs.specs.Header.{header-length, headerOf}
 use Rattle.programs.specs.Reading.{within-means, decode-as}
 use Rattle.programs.specs.Inverse.{field-drop, length-some, header-reads}
 use Rattle.programs.specs.declared.description.Program.{Program}
 use Rattle.programs.specs.declared.description.Instruction.{Instruction}
 use Rattle.programs.specs.declared.description.Instruction.the-variants.{Ones, Zero, Input, Not, And, Or, Output}
-use Rattle.checker.specs.Checks.{Code, every, also, inRange, instructionOf, codeOf, nothing, checkOf}
-use Rattle.checker.specs.Standing.{InRange, reads-stands}
+use Rattle.checker.specs.Checks.{Code, also, inRange, instructionOf, codeOf, nothing, checkOf}
+use Rattle.checker.specs.Standing.{InRange, firstOf, secondOf, thirdOf, namedAt, reads-stands}
 
 -- what flags say
 unfoldable pub flagged : List Bool → ℕ → Bool
@@ -34,68 +36,58 @@ flagged flags r = getD flags r false
 unfoldable pub restOf : List ℕ → Program → (ℕ → Bool) → (ℕ → Bool) → ℕ → ℕ → Outcome Program
 restOf file p written set n at = mapped (λ is. p) (codeOf n p written set (drop at file))
 
--- ---- operands
-pub and-true : (b : Bool) → (b && true) ≡ b
-and-true true = refl
-and-true false = refl
-
-and-assoc : (a b c : Bool) → (a && b && c) ≡ (a && (b && c))
-and-assoc true b c = refl
-and-assoc false b c = refl
-
--- the test of the operands as the code makes it
+-- ---- operands: the test, and what it says
 module _ (p : Program) (i : Instruction) where
-  pub range-ones : (to : ℕ) → i ≡ Ones to → ltb to (p .registers) ≡ inRange p i
-  range-ones to e = rw e (sym (simp and-true))
+  pub range-means : inRange p i ≡ true → InRange (p .registers) (p .inputs) (p .outputs) i
+  range-means e =
+      let wrti = both _ _ e in
+      let wrt = both _ _ (wrti .0) in
+      let wr = both _ _ (wrt .0) in (
+        every-below (p .registers) (uses i .writes) .0 (wr .0),
+        every-below (p .registers) (uses i .reads) .0 (wr .1),
+        every-below (p .inputs) (uses i .takes) .0 (wrt .1),
+        every-below (p .outputs) (uses i .sets) .0 (wrti .1),
+      )
 
-  pub range-zero : (to : ℕ) → i ≡ Zero to → ltb to (p .registers) ≡ inRange p i
-  range-zero to e = rw e (sym (simp and-true))
+  pub range-holds : InRange (p .registers) (p .inputs) (p .outputs) i → inRange p i ≡ true
+  range-holds f =
+      rw (
+        every-below (p .registers) (uses i .writes) .1 (f .0),
+        every-below (p .registers) (uses i .reads) .1 (f .1),
+        every-below (p .inputs) (uses i .takes) .1 (f .2),
+        every-below (p .outputs) (uses i .sets) .1 (f .3),
+      )
 
-  pub range-input : (to n : ℕ) → i ≡ Input to n → (ltb to (p .registers) && ltb n (p .inputs)) ≡ inRange p i
-  range-input to n e = rw e (sym (simp and-true))
+-- the test as the code makes it, by the kind
+abbrev pub tested : Program → Instruction → Bool
+tested p (Ones to) = ltb to (p .registers)
+tested p (Zero to) = ltb to (p .registers)
+tested p (Input to n) = ltb to (p .registers) && ltb n (p .inputs)
+tested p (Not to a) = ltb to (p .registers) && ltb a (p .registers)
+tested p (And to a b) = ltb to (p .registers) && ltb a (p .registers) && ltb b (p .registers)
+tested p (Or to a b) = ltb to (p .registers) && ltb a (p .registers) && ltb b (p .registers)
+tested p (Output o a) = ltb a (p .registers) && ltb o (p .outputs)
 
-  pub range-not : (to a : ℕ) → i ≡ Not to a → (ltb to (p .registers) && ltb a (p .registers)) ≡ inRange p i
-  range-not to a e = rw e (sym (simp and-true))
+pub range-tested : (p : Program) (i j : Instruction) → i ≡ j → tested p j ≡ inRange p i
+range-tested p i j e = rw e (sym (by j))
+  where
+    by : (j : Instruction) → inRange p j ≡ tested p j
+    by (Ones to) = simp and-true
+    by (Zero to) = simp and-true
+    by (Input to n) = simp and-true
+    by (Not to a) = simp and-true
+    by (And to a b) = simp (and-true, and-assoc)
+    by (Or to a b) = simp (and-true, and-assoc)
+    by (Output o a) = simp and-true
 
-  pub range-and : (to a b : ℕ) → i ≡ And to a b → (ltb to (p .registers) && ltb a (p .registers) && ltb b (p .registers)) ≡ inRange p i
-  range-and to a b e = rw e (sym (simp (and-true, and-assoc)))
-
-  pub range-or : (to a b : ℕ) → i ≡ Or to a b → (ltb to (p .registers) && ltb a (p .registers) && ltb b (p .registers)) ≡ inRange p i
-  range-or to a b e = rw e (sym (simp (and-true, and-assoc)))
-
-  pub range-output : (o a : ℕ) → i ≡ Output o a → (ltb a (p .registers) && ltb o (p .outputs)) ≡ inRange p i
-  range-output o a e = rw e (sym (simp and-true))
-
--- and in plain facts
-pub range-means : (p : Program) (i : Instruction) → inRange p i ≡ true → InRange (p .registers) (p .inputs) (p .outputs) i
-range-means p (Ones to) e = ltb-true to (p .registers) (simp and-true at e)
-range-means p (Zero to) e = ltb-true to (p .registers) (simp and-true at e)
-range-means p (Input to n) e =
-    let s = both (ltb to (p .registers)) (ltb n (p .inputs)) (simp and-true at e) in
-    (ltb-true to (p .registers) (s .0), ltb-true n (p .inputs) (s .1))
-range-means p (Not to a) e =
-    let s = both (ltb to (p .registers)) (ltb a (p .registers)) (simp and-true at e) in
-    (ltb-true to (p .registers) (s .0), ltb-true a (p .registers) (s .1))
-range-means p (And to a b) e =
-    let s = both (ltb to (p .registers)) (ltb a (p .registers) && ltb b (p .registers)) (simp and-true at e) in
-    let q = both (ltb a (p .registers)) (ltb b (p .registers)) (s .1) in
-    (ltb-true to (p .registers) (s .0), ltb-true a (p .registers) (q .0), ltb-true b (p .registers) (q .1))
-range-means p (Or to a b) e =
-    let s = both (ltb to (p .registers)) (ltb a (p .registers) && ltb b (p .registers)) (simp and-true at e) in
-    let q = both (ltb a (p .registers)) (ltb b (p .registers)) (s .1) in
-    (ltb-true to (p .registers) (s .0), ltb-true a (p .registers) (q .0), ltb-true b (p .registers) (q .1))
-range-means p (Output o a) e =
-    let s = both (ltb a (p .registers)) (ltb o (p .outputs)) (simp and-true at e) in
-    (ltb-true o (p .outputs) (s .1), ltb-true a (p .registers) (s .0))
-
+-- with more registers, inputs and outputs
 pub range-wider : (nr ni nq mr mi mq : ℕ) (i : Instruction) → nr ≤ mr → ni ≤ mi → nq ≤ mq → InRange nr ni nq i → InRange mr mi mq i
-range-wider nr ni nq mr mi mq (Ones to) a b c r = omega arith
-range-wider nr ni nq mr mi mq (Zero to) a b c r = omega arith
-range-wider nr ni nq mr mi mq (Input to n) a b c r = (omega (arith, r .0), omega (arith, r .1))
-range-wider nr ni nq mr mi mq (Not to x) a b c r = (omega (arith, r .0), omega (arith, r .1))
-range-wider nr ni nq mr mi mq (And to x y) a b c r = (omega (arith, r .0), omega (arith, r .1), omega (arith, r .2))
-range-wider nr ni nq mr mi mq (Or to x y) a b c r = (omega (arith, r .0), omega (arith, r .1), omega (arith, r .2))
-range-wider nr ni nq mr mi mq (Output o x) a b c r = (omega (arith, r .0), omega (arith, r .1))
+range-wider nr ni nq mr mi mq i a b c r = (
+  each-more (λ x. x < nr) (λ x. x < mr) (uses i .writes) (λ x l. omega arith) (r .0),
+  each-more (λ x. x < nr) (λ x. x < mr) (uses i .reads) (λ x l. omega arith) (r .1),
+  each-more (λ x. x < ni) (λ x. x < mi) (uses i .takes) (λ x l. omega arith) (r .2),
+  each-more (λ x. x < nq) (λ x. x < mq) (uses i .sets) (λ x l. omega arith) (r .3),
+)
 
 pub range-limits : (p : Program) (i : Instruction) → within p ≡ true → inRange p i ≡ true →
     InRange most-registers most-inputs most-outputs i
@@ -106,7 +98,7 @@ range-limits p i w e =
 -- ---- marks
 -- flags after those of a list were set
 pub record Flags (xs : List ℕ) (w w′ : List Bool) : Type 0 where
-  pub told : flagged w′ ≡ also (flagged w) xs
+  pub now-flagged : flagged w′ ≡ also (flagged w) xs
   pub long : length w′ ≡ length w
 
 flag-set : (w : List Bool) (to : ℕ) → to < length w → flagged (set w to true) ≡ also (flagged w) (to ∷ [])
@@ -122,10 +114,10 @@ unfolding also
 also-none t = fun-ext (λ r. refl)
 
 pub flags-none : (w : List Bool) → Flags [] w w
-flags-none w = record { told = also-none (flagged w); long = refl }
+flags-none w = record { now-flagged = also-none (flagged w); long = refl }
 
 pub flags-one : (w : List Bool) (x : ℕ) → x < length w → Flags (x ∷ []) w (set w x true)
-flags-one w x h = record { told = flag-set w x h; long = length-set w x true }
+flags-one w x h = record { now-flagged = flag-set w x h; long = length-set w x true }
 
 -- ---- one instruction
 module _ (file : List ℕ) (at : ℕ) (p : Program) (written : ℕ → Bool) where
@@ -148,14 +140,17 @@ module _ (file : List ℕ) (at : ℕ) (p : Program) (written : ℕ → Bool) whe
 
 -- what an instruction that is admitted says
 pub instruction-means : (p : Program) (written : ℕ → Bool) (bytes : List ℕ) (i : Instruction) → instructionOf p written bytes ≡ gives i →
-    (decodeOf bytes ≡ gives i) × (inRange p i ≡ true)
+    (decodeOf bytes ≡ gives i) × (inRange p i ≡ true) × (every written (uses i .reads) ≡ true)
 unfolding instructionOf
 instruction-means p written bytes i e =
     let c1 = bound (decodeOf bytes) _ i e in
     let c2 = passed 8 (not (inRange p (c1 .0))) _ i (c1 .2) in
     let c3 = passed 9 (not (every written (uses (c1 .0) .reads))) (gives (c1 .0)) i (c2 .1) in
-    let q : c1 .0 ≡ i = gives-inj (c3 .1) in
-    (c1 .1 ∙ ap gives q, ap (inRange p) (sym q) ∙ not-false (inRange p (c1 .0)) (c2 .0))
+    let same : c1 .0 ≡ i = gives-inj (c3 .1) in (
+      c1 .1 ∙ ap gives same,
+      rw same at (not-false (inRange p (c1 .0)) (c2 .0)),
+      rw same at (not-false (every written (uses (c1 .0) .reads)) (c3 .0)),
+    )
 
 pub admit-limits : (p : Program) (written : ℕ → Bool) (bytes : List ℕ) (i : Instruction) → gives i ≡ instructionOf p written bytes →
     within p ≡ true → InRange most-registers most-inputs most-outputs i
@@ -166,20 +161,16 @@ pub admit-room : (file : List ℕ) (at : ℕ) (p : Program) (written : ℕ → B
 admit-room file at p written i e = reads-stands file at i (instruction-means p written (drop at file) i (sym e) .0) .room
 
 -- ---- what is left of a check
-mapped-const : {A B C : Type 0} (c : C) (f : A → B) (o : Outcome A) → mapped (λ b. c) (o >>= λ a. gives (f a)) ≡ mapped (λ a. c) o
-mapped-const c f (refused k) = refl
-mapped-const c f (gives a) = refl
+-- of a result that is made of another, a part that does not depend on it
+mapped-after : {A B C : Type 0} (c : C) (g : B → C) (f : A → B) → ((a : A) → g (f a) ≡ c) → (o : Outcome A) →
+    mapped g (o >>= λ a. gives (f a)) ≡ mapped (λ a. c) o
+mapped-after c g f e o = rw (bind-is o f) (mapped-mapped f g (λ a. c) o e)
 
 module _ (file : List ℕ) (p : Program) (written set : ℕ → Bool) (n at : ℕ) where
-  rest-more : (i : Instruction) → instructionOf p written (drop at file) ≡ gives i →
-      restOf file p written set (suc n) at ≡ restOf file p (also written (uses i .writes)) (also set (uses i .sets)) n (at + lengthOf i)
+  rest-more : (i : Instruction) → instructionOf p written (drop at file) ≡ gives i → restOf file p written set (suc n) at ≡
+      restOf file p (also written (uses i .writes)) (also set (uses i .sets)) n (at + lengthOf i)
   unfolding restOf codeOf
-  rest-more i e =
-      rw (
-        e,
-        mapped-const p (λ (is : List Instruction). i ∷ is) (codeOf n p (also written (uses i .writes)) (also set (uses i .sets)) (drop (lengthOf i) (drop at file))),
-        drop-drop (lengthOf i) at file,
-      )
+  rest-more i e = rw (e, mapped-after p (λ is. p) (λ (is : List Instruction). i ∷ is) (λ is. refl), drop-drop (lengthOf i) at file)
 
   rest-refused : (k : ℕ) → instructionOf p written (drop at file) ≡ refused k → restOf file p written set (suc n) at ≡ refused k
   unfolding restOf codeOf
@@ -201,15 +192,14 @@ module _ (file : List ℕ) (p : Program) (written set : ℕ → Bool) (at : ℕ)
 -- ---- runs of gates
 -- the operands of an AND or an OR that no refusal is due for
 pub record SoundGate (file : List ℕ) (at registers : ℕ) (w : List Bool) : Type 0 where
-  pub into : fieldOf file (at + 4) < registers
-  pub left : fieldOf file (at + 6) < registers
-  pub right : fieldOf file (at + 8) < registers
-  pub left-written : flagged w (fieldOf file (at + 6)) ≡ true
-  pub right-written : flagged w (fieldOf file (at + 8)) ≡ true
+  pub into : firstOf file at < registers
+  pub left : secondOf file at < registers
+  pub right : thirdOf file at < registers
+  pub left-written : flagged w (secondOf file at) ≡ true
+  pub right-written : flagged w (thirdOf file at) ≡ true
 
-pub sound : (file : List ℕ) (at registers to a b : ℕ) (w : List Bool) → to ≡ fieldOf file (at + 4) → a ≡ fieldOf file (at + 6) →
-    b ≡ fieldOf file (at + 8) → to < registers → a < registers → b < registers → (getD w a false && getD w b false) ≡ true →
-    SoundGate file at registers w
+pub sound : (file : List ℕ) (at registers to a b : ℕ) (w : List Bool) → to ≡ firstOf file at → a ≡ secondOf file at → b ≡ thirdOf file at →
+    to < registers → a < registers → b < registers → (getD w a false && getD w b false) ≡ true → SoundGate file at registers w
 unfolding flagged
 sound file at registers to a b w e q r l m n f =
     let s = both (getD w a false) (getD w b false) f in
@@ -222,27 +212,28 @@ sound file at registers to a b w e q r l m n f =
     }
 
 -- length and kind as one number
-pub head-parts : (file : List ℕ) (at kind x : ℕ) → x ≡ fieldOf file at + 65536 * fieldOf file (at + 2) → fieldOf file at < 65536 → x ≡ 10 + 65536 * kind →
-    (fieldOf file at ≡ 10) × (fieldOf file (at + 2) ≡ kind)
+pub head-parts : (file : List ℕ) (at kind x : ℕ) → x ≡ fieldOf file at + 65536 * fieldOf file (at + 2) → fieldOf file at < 65536 →
+    x ≡ 10 + 65536 * kind → (fieldOf file at ≡ 10) × (fieldOf file (at + 2) ≡ kind)
 head-parts file at kind x e l q = (omega arith, omega arith)
 
 -- passing instructions that write registers and set no output, for every program with so many registers
 pub record Passes (file : List ℕ) (registers n₀ from : ℕ) (w₀ : List Bool) (n at : ℕ) (w : List Bool) : Type 0 where
-  pub same : (p : Program) → p .registers ≡ registers → (set : ℕ → Bool) → restOf file p (flagged w) set n at ≡ restOf file p (flagged w₀) set n₀ from
+  pub same : (p : Program) → p .registers ≡ registers → (set : ℕ → Bool) →
+      restOf file p (flagged w) set n at ≡ restOf file p (flagged w₀) set n₀ from
   pub less : n ≤ n₀
   pub inside : at ≤ length file
   pub long : length w ≡ length w₀
 
-module _ (file : List ℕ) (at : ℕ) (i : Instruction) (room : at + lengthOf i ≤ length file) (long : fieldOf file at ≡ lengthOf i) where
-  -- an instruction by its fields
-  decodes : ofKind (fieldOf file (at + 2)) (fieldOf file (at + 4)) (fieldOf file (at + 6)) (fieldOf file (at + 8)) ≡ gives i → gives i ≡ decodeAt file at
-  unfolding decodeAt sizedOf
-  decodes e =
-      let z : at + 0 ≡ at = omega arith in
-      decode-as (drop at file) (lengthOf i) (rw (field-drop at file 0, z) (sym long)) (omega (arith, length-drop at file, length-some i))
-      (omega (arith, length-drop at file)) (fieldOf file (at + 2)) (fieldOf file (at + 4)) (fieldOf file (at + 6)) (fieldOf file (at + 8))
-      (sym (field-drop at file 4)) (sym (field-drop at file 6)) (sym (field-drop at file 8)) (sym (field-drop at file 2)) i (gives i) e
-      (rw (eq-eqb (lengthOf i) (lengthOf i) refl))
+-- an instruction by its fields
+decodes : (file : List ℕ) (at : ℕ) (i : Instruction) → at + lengthOf i ≤ length file → fieldOf file at ≡ lengthOf i →
+    namedAt file at ≡ gives i → gives i ≡ decodeAt file at
+unfolding decodeAt sizedOf
+decodes file at i room long e =
+    let z : at + 0 ≡ at = omega arith in
+    decode-as (drop at file) (lengthOf i) (rw (field-drop at file 0, z) (sym long)) (omega (arith, length-drop at file, length-some i))
+    (omega (arith, length-drop at file)) (fieldOf file (at + 2)) (firstOf file at) (secondOf file at) (thirdOf file at)
+    (sym (field-drop at file 4)) (sym (field-drop at file 6)) (sym (field-drop at file 8)) (sym (field-drop at file 2)) i (gives i) e
+    (rw (eq-eqb (lengthOf i) (lengthOf i) refl))
 
 module _ (file : List ℕ) (registers n₀ from : ℕ) (w₀ : List Bool) where
   pub passes-none : (n : ℕ) → n ≡ n₀ → from ≤ length file → Passes file registers n₀ from w₀ n from w₀
@@ -266,32 +257,28 @@ module _ (file : List ℕ) (registers n₀ from : ℕ) (w₀ : List Bool) where
         plain p set = rw (f, s, ← also-none set)
 
     module _ (room : at + 10 ≤ length file) (long : length w₀ ≡ most-registers) (few : registers ≤ most-registers) (len : fieldOf file at ≡ 10)
-        (s : SoundGate file at registers w) (to : ℕ) (is-to : to ≡ fieldOf file (at + 4)) where
-      gate : (i : Instruction) → lengthOf i ≡ 10 → uses i .sets ≡ [] → uses i .writes ≡ fieldOf file (at + 4) ∷ [] →
-          uses i .reads ≡ fieldOf file (at + 6) ∷ fieldOf file (at + 8) ∷ [] → ((p : Program) → p .registers ≡ registers → inRange p i ≡ true) →
-          ofKind (fieldOf file (at + 2)) (fieldOf file (at + 4)) (fieldOf file (at + 6)) (fieldOf file (at + 8)) ≡ gives i →
-          Passes file registers n₀ from w₀ m (at + 10) (set w to true)
-      gate i ten none one two range named =
-          let e : gives i ≡ decodeAt file at = decodes file at i (omega arith) (len ∙ sym ten) named in
-          let read : every (flagged w) (uses i .reads) ≡ true = rw (two, s .left-written, s .right-written) in
+        (s : SoundGate file at registers w) (to : ℕ) (is-to : to ≡ firstOf file at) where
+      gate : (i : Instruction) → lengthOf i ≡ 10 →
+          uses i ≡ record { reads = secondOf file at ∷ thirdOf file at ∷ []; writes = firstOf file at ∷ []; takes = []; sets = [] } →
+          namedAt file at ≡ gives i → Passes file registers n₀ from w₀ m (at + 10) (set w to true)
+      gate i ten u named =
+          let range : (p : Program) → p .registers ≡ registers → inRange p i ≡ true =
+          λ p r. range-holds p i (rw (u, r) ((s .into, tt), (s .left, (s .right, tt)), tt, tt)) in
+          let read : every (flagged w) (uses i .reads) ≡ true = rw (u, s .left-written, s .right-written) in
           let into : to < length w = omega (arith, s .into, g .long) in
+          let e : gives i ≡ decodeAt file at = decodes file at i (omega arith) (len ∙ sym ten) named in
           rw ten at
-          (passes-suc i (set w to true) (λ p r. sym (admit-gives file at p (flagged w) i e (range p r) read)) none
-          (rw (one, ← is-to) (flag-set w to into)) (length-set w to true) (omega arith))
+          (passes-suc i (set w to true) (λ p r. sym (admit-gives file at p (flagged w) i e (range p r) read)) (rw u)
+          (rw (u, ← is-to) (flag-set w to into)) (length-set w to true) (omega arith))
 
-      tests : (ltb (fieldOf file (at + 4)) registers ≡ true) × (ltb (fieldOf file (at + 6)) registers ≡ true) × (ltb (fieldOf file (at + 8)) registers ≡ true)
-      tests = (lt-ltb _ _ (s .into), lt-ltb _ _ (s .left), lt-ltb _ _ (s .right))
-
-      pub passes-gate : (kind : ℕ) → 5 ≤ kind → kind ≤ 6 → fieldOf file (at + 2) ≡ kind → Passes file registers n₀ from w₀ m (at + 10) (set w to true)
+      pub passes-gate : (kind : ℕ) → 5 ≤ kind → kind ≤ 6 → fieldOf file (at + 2) ≡ kind →
+          Passes file registers n₀ from w₀ m (at + 10) (set w to true)
       passes-gate kind a b k =
           ⊎-elim
-          (λ (e : 5 ≡ kind).
-          gate (And (fieldOf file (at + 4)) (fieldOf file (at + 6)) (fieldOf file (at + 8))) refl refl refl refl
-          (λ p r. rw (r, tests .0, tests .1, tests .2)) (rw (k ∙ sym e)))
+          (λ (e : 5 ≡ kind). gate (And (firstOf file at) (secondOf file at) (thirdOf file at)) refl refl (rw (k ∙ sym e)))
           (λ (e : 5 < kind).
           let six : kind ≡ 6 = omega arith in
-          gate (Or (fieldOf file (at + 4)) (fieldOf file (at + 6)) (fieldOf file (at + 8))) refl refl refl refl
-          (λ p r. rw (r, tests .0, tests .1, tests .2)) (rw (k ∙ six)))
+          gate (Or (firstOf file at) (secondOf file at) (thirdOf file at)) refl refl (rw (k ∙ six)))
           (eq-or-lt-of-le a)
 
 -- ---- the whole body
@@ -328,7 +315,7 @@ module _ (file : List ℕ) (p : Program) where
           Checking file p m (at + lengthOf i) w′ s′
       checking-suc m q w′ s′ a b =
           record {
-            same = rw (a .told, b .told)
+            same = rw (a .now-flagged, b .now-flagged)
                 (sym (rest-more file p (flagged w) (flagged s) m at i (sym reads)) ∙ rw q at (g .same));
             inside = admit-room file at p (flagged w) i reads;
             long = a .long ∙ g .long;
@@ -367,11 +354,6 @@ module _ (file : List ℕ) (p : Program) where
       checking-done h e = sym (rest-done file p (flagged w) (flagged s) at h e) ∙ at-end
 
 -- ---- header, then body
-mapped-same : {A B C : Type 0} (c : C) (g : B → C) (f : A → B) → ((a : A) → g (f a) ≡ c) → (o : Outcome A) →
-    mapped (λ a. c) o ≡ mapped g (o >>= λ a. gives (f a))
-mapped-same c g f e (refused k) = refl
-mapped-same c g f e (gives a) = ap gives (sym (e a))
-
 module _ (file : List ℕ) where
   pub check-refused : (k : ℕ) → refused k ≡ headerOf file → refused k ≡ mapped (λ c. c .program) (checkOf file)
   unfolding checkOf
@@ -383,11 +365,12 @@ module _ (file : List ℕ) where
         let r = header-reads file p (sym e) in
         (r .inside, r .room)
 
-    pub check-body : (o : Outcome Program) → o ≡ restOf file p nothing nothing (p .count) header-length → o ≡ mapped (λ c. c .program) (checkOf file)
+    pub check-body : (o : Outcome Program) → o ≡ restOf file p nothing nothing (p .count) header-length →
+        o ≡ mapped (λ c. c .program) (checkOf file)
     unfolding checkOf restOf
     check-body o q =
-        q ∙ (mapped-same p (λ (c : Code). c .program) (λ (is : List Instruction). record { program = p; instructions = is }) (λ is. refl)
-        (codeOf (p .count) p nothing nothing (drop header-length file)) ∙ rw (← e))
+        q ∙ (sym (mapped-after p (λ (c : Code). c .program) (λ (is : List Instruction). record { program = p; instructions = is })
+        (λ is. refl) (codeOf (p .count) p nothing nothing (drop header-length file))) ∙ rw (← e))
 
 -- what a check that has passed says: header, then instructions
 pub check-says : (file : List ℕ) (c : Code) → checkOf file ≡ gives c →

@@ -1,10 +1,11 @@
 -- 01, "The engine's no": what checking a program file comes to. Assumes nothing.
 use Prim.Native.Nat.{ℕ, zero, suc}
-use mathlib.Core.Bool.{Bool, true, false, not, _&&_, _||_}
+use mathlib.Core.Bool.{Bool, false, not, _&&_, _||_}
 use mathlib.Core.List.{List, [], _∷_}
 use lib.Dec.{eqb, ltb}
 use lib.ListN.{length, drop}
 use Rattle.laws.specs.Sums.{any}
+use Rattle.laws.specs.Every.{every}
 use Rattle.laws.specs.Outcome.{Outcome, gives, refuse, _>>_, _>>=_}
 use Rattle.programs.specs.Instructions.{uses, lengthOf, decodeOf}
 use Rattle.programs.specs.Header.{header-length, headerOf}
@@ -15,11 +16,6 @@ use Rattle.programs.specs.declared.description.Instruction.{Instruction}
 pub record Code : Type 0 where
   pub program : Program
   pub instructions : List Instruction
-
--- whether all numbers of a list pass a test
-abbrev pub every : (ℕ → Bool) → List ℕ → Bool
-every t [] = true
-every t (x ∷ xs) = t x && every t xs
 
 -- the numbers that pass a test, or are in the list
 unfoldable pub also : (ℕ → Bool) → List ℕ → ℕ → Bool

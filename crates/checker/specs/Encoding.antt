@@ -1,18 +1,19 @@
 -- An accepted program file is the encoding of its header and instructions, and what acceptance means in plain words. Assumes nothing.
 use Prim.Native.Nat.{ℕ, zero, suc, _+_, _≤_, _<_}
 use mathlib.Core.Path.{_≡_, refl, sym, ap, _∙_, subst}
-use mathlib.Core.Bool.{Bool, true, false, not, _||_}
+use mathlib.Core.Bool.{Bool, true, false, not}
 use mathlib.Core.List.{List, [], _∷_, _++_}
-use mathlib.Core.Logic.{_⊎_, inl, inr, ⊎-elim, _↔_}
+use mathlib.Core.Logic.{_⊎_, inl, inr, ⊎-elim, ⊎-map, _↔_}
 use native.Mathlib.Omega.{arith}
-use borrow.Author.Tests.{ltb-true, ltb-false, eqb-true, not-false, le-leb}
-use lib.Dec.{eqb, ltb}
+use borrow.Author.Tests.{ltb-false, not-false, le-leb}
+use lib.Dec.{ltb}
 use lib.ListN.{length, getD, drop}
 use lib.Seq.{getD-drop}
-use Rattle.laws.specs.Tests.{never, both}
+use Rattle.laws.specs.Tests.{never}
 use Rattle.laws.specs.Sums.{any, any-false}
 use Rattle.laws.specs.Outcome.{gives, passed, bound, gives-inj}
 use Rattle.laws.specs.Each.{Each}
+use Rattle.laws.specs.Every.{every, OneOf, every-each, each-one, one-each}
 use Rattle.programs.specs.Limits.{most-registers, most-inputs, most-outputs, most-instructions, within}
 use Rattle.programs.specs.Instructions.{uses, lengthOf, instructionBytes, decodeOf}
 use Rattle.programs.specs.Header.{header-length, headerBytes, codeBytes, programFile}
@@ -20,9 +21,9 @@ use Rattle.programs.specs.Reading.{Within, within-means}
 use Rattle.programs.specs.Inverse.{header-reads, instruction-back, header-back}
 use Rattle.programs.specs.declared.description.Program.{Program}
 use Rattle.programs.specs.declared.description.Instruction.{Instruction}
-use Rattle.checker.specs.Checks.{Code, every, also, inRange, instructionOf, codeOf, nothing, checkOf}
-use Rattle.checker.specs.Checking.{check-says}
-use Rattle.checker.specs.Accepting.{OneOf, Fits, Ready, Sets, none, Sound, accepted}
+use Rattle.checker.specs.Checks.{Code, also, inRange, instructionOf, codeOf, nothing, checkOf}
+use Rattle.checker.specs.Checking.{range-means, instruction-means, check-says}
+use Rattle.checker.specs.Accepting.{Fits, Ready, Sets, none, Sound, also-says, accepted}
 
 -- ---- what acceptance means in plain words
 -- instruction i stands at position k
@@ -59,7 +60,7 @@ pub record WellFormed (p : Program) (is : List Instruction) : Type 0 where
 pub record Coded (n : ℕ) (p : Program) (written set : ℕ → Bool) (bytes : List ℕ) (is : List Instruction) : Type 0 where
   pub first : Instruction
   pub rest : List Instruction
-  pub whole : is ≡ first ∷ rest
+  pub split : is ≡ first ∷ rest
   pub read : decodeOf bytes ≡ gives first
   pub in-range : inRange p first ≡ true
   pub known : every written (uses first .reads) ≡ true
@@ -67,24 +68,13 @@ pub record Coded (n : ℕ) (p : Program) (written set : ℕ → Bool) (bytes : L
 
 pub code-says : (n : ℕ) (p : Program) (written set : ℕ → Bool) (bytes : List ℕ) (is : List Instruction) →
     codeOf (suc n) p written set bytes ≡ gives is → Coded n p written set bytes is
-unfolding codeOf instructionOf
+unfolding codeOf
 code-says n p written set bytes is e =
     let c1 = bound (instructionOf p written bytes) _ is e in
     let i : Instruction = c1 .0 in
     let c2 = bound (codeOf n p (also written (uses i .writes)) (also set (uses i .sets)) (drop (lengthOf i) bytes)) _ is (c1 .2) in
-    let d1 = bound (decodeOf bytes) _ i (c1 .1) in
-    let d2 = passed 8 (not (inRange p (d1 .0))) _ i (d1 .2) in
-    let d3 = passed 9 (not (every written (uses (d1 .0) .reads))) (gives (d1 .0)) i (d2 .1) in
-    let same : d1 .0 ≡ i = gives-inj (d3 .1) in
-    record {
-      first = i;
-      rest = c2 .0;
-      whole = sym (gives-inj (c2 .2));
-      read = d1 .1 ∙ ap gives same;
-      in-range = rw same at (not-false (inRange p (d1 .0)) (d2 .0));
-      known = rw same at (not-false (every written (uses (d1 .0) .reads)) (d3 .0));
-      behind = c2 .1;
-    }
+    let m = instruction-means p written bytes i (c1 .1) in
+    record { first = i; rest = c2 .0; split = sym (gives-inj (c2 .2)); read = m .0; in-range = m .1; known = m .2; behind = c2 .1 }
 
 pub code-ends : (p : Program) (written set : ℕ → Bool) (bytes : List ℕ) (is : List Instruction) → codeOf 0 p written set bytes ≡ gives is →
     (bytes ≡ []) × (is ≡ []) × ((o : ℕ) → o < p .outputs → set o ≡ true)
@@ -113,7 +103,7 @@ code-back (suc n) p written set bytes is byte e =
     let later : drop (lengthOf (c .first)) bytes ≡ codeBytes (c .rest) =
     code-back n p (also written (uses (c .first) .writes)) (also set (uses (c .first) .sets)) (drop (lengthOf (c .first)) bytes) (c .rest)
     (λ k. rw (getD-drop (lengthOf (c .first)) bytes k 0) (byte (lengthOf (c .first) + k))) (c .behind) in
-    rw (c .whole) (instruction-back bytes (c .first) byte (c .read) ∙ ap (λ (l : List ℕ). instructionBytes (c .first) ++ l) later)
+    rw (c .split) (instruction-back bytes (c .first) byte (c .read) ∙ ap (λ (l : List ℕ). instructionBytes (c .first) ++ l) later)
 
 -- an accepted file is the header and the instructions that are read from it, written again
 pub accepted-is : (file : List ℕ) (c : Code) → ((k : ℕ) → getD file k 0 < 256) → checkOf file ≡ gives c →
@@ -132,37 +122,6 @@ pub accepted-one : (file other : List ℕ) (c : Code) → ((k : ℕ) → getD fi
 accepted-one file other c byte byte′ e q = accepted-is file c byte e ∙ sym (accepted-is other c byte′ q)
 
 -- ---- an accepted program is sound
-each-true : (t : ℕ → Bool) (P : ℕ → Type 0) (xs : List ℕ) → ((x : ℕ) → t x ≡ true → P x) → every t xs ≡ true → Each P xs
-each-true t P [] f e = tt
-each-true t P (x ∷ xs) f e =
-    let s = both (t x) (every t xs) e in
-    (f x (s .0), each-true t P xs f (s .1))
-
-below : (n : ℕ) (xs : List ℕ) → every (λ x. ltb x n) xs ≡ true → Each (λ x. x < n) xs
-below n xs e = each-true (λ x. ltb x n) (λ x. x < n) xs (λ x t. ltb-true x n t) e
-
-range-fits : (p : Program) (i : Instruction) → inRange p i ≡ true → Fits p i
-range-fits p i e =
-    let wrti = both _ _ e in
-    let wrt = both _ _ (wrti .0) in
-    let wr = both _ _ (wrt .0) in (
-      below (p .registers) (uses i .writes) (wr .0),
-      below (p .registers) (uses i .reads) (wr .1),
-      below (p .inputs) (uses i .takes) (wrt .1),
-      below (p .outputs) (uses i .sets) (wrti .1),
-    )
-
--- what the list adds to a test
-also-says : (t : ℕ → Bool) (xs : List ℕ) (r : ℕ) → also t xs r ≡ true → OneOf xs r ⊎ (t r ≡ true)
-unfolding also
-also-says t [] r e = inr e
-also-says t (x ∷ xs) r e = first (eqb x r) refl (λ q. also-says t xs r q) e
-  where
-    first : (b : Bool) → eqb x r ≡ b → (also t xs r ≡ true → OneOf xs r ⊎ (t r ≡ true)) → (b || also t xs r) ≡ true →
-        OneOf (x ∷ xs) r ⊎ (t r ≡ true)
-    first true q later e = inl (inl (sym (eqb-true x r q)))
-    first false q later e = ⊎-elim (λ (y : OneOf xs r). inl (inr y)) (λ (y : t r ≡ true). inr y) (later e)
-
 -- what is asked of instructions, where those before them wrote W and set what passes the test
 record Follows (n : ℕ) (p : Program) (W : ℕ → Type 0) (set : ℕ → Bool) (is : List Instruction) : Type 0 where
   counted : n ≡ length is
@@ -173,8 +132,7 @@ record Follows (n : ℕ) (p : Program) (W : ℕ → Type 0) (set : ℕ → Bool)
 set-here : (i : Instruction) (is : List Instruction) (set : ℕ → Bool) (o : ℕ) → Sets o is ⊎ (also set (uses i .sets) o ≡ true) →
     Sets o (i ∷ is) ⊎ (set o ≡ true)
 set-here i is set o (inl x) = inl (inr x)
-set-here i is set o (inr x) =
-    ⊎-elim (λ (y : OneOf (uses i .sets) o). inl (inl y)) (λ (y : set o ≡ true). inr y) (also-says set (uses i .sets) o x)
+set-here i is set o (inr x) = ⊎-map (λ y. inl y) (λ y. y) (also-says set (uses i .sets) o x)
 
 code-follows : (n : ℕ) (p : Program) (W : ℕ → Type 0) (written set : ℕ → Bool) (bytes : List ℕ) (is : List Instruction) →
     ((r : ℕ) → written r ≡ true → W r) → codeOf n p written set bytes ≡ gives is → Follows n p W set is
@@ -186,11 +144,11 @@ code-follows (suc n) p W written set bytes is w e =
     let u = uses (c .first) in
     let f =
     code-follows n p (λ r. OneOf (u .writes) r ⊎ W r) (also written (u .writes)) (also set (u .sets)) (drop (lengthOf (c .first)) bytes) (c .rest)
-    (λ r t. ⊎-elim (λ (y : OneOf (u .writes) r). inl y) (λ (y : written r ≡ true). inr (w r y)) (also-says written (u .writes) r t)) (c .behind) in
-    rw (c .whole) (record {
+    (λ r t. ⊎-map (λ y. y) (w r) (also-says written (u .writes) r t)) (c .behind) in
+    rw (c .split) (record {
       counted = ap suc (f .counted);
-      in-range = (range-fits p (c .first) (c .in-range), f .in-range);
-      ready = (each-true written W (u .reads) w (c .known), f .ready);
+      in-range = (range-means p (c .first) (c .in-range), f .in-range);
+      ready = (every-each written W (u .reads) w (c .known), f .ready);
       all-set = λ o l. set-here (c .first) (c .rest) set o (f .all-set o l);
     })
 
@@ -228,15 +186,6 @@ at-sets : (o : ℕ) (is : List Instruction) → SetBy is o → Sets o is
 at-sets o [] (k, i, a, s) = absurd a
 at-sets o (x ∷ xs) (zero, i, a, s) = inl (rw a s)
 at-sets o (x ∷ xs) (suc k, i, a, s) = inr (at-sets o xs (k, i, a, s))
-
-each-one : (W : ℕ → Type 0) (xs : List ℕ) → Each W xs → (r : ℕ) → OneOf xs r → W r
-each-one W [] e r o = absurd o
-each-one W (x ∷ xs) e r (inl o) = rw o (e .0)
-each-one W (x ∷ xs) e r (inr o) = each-one W xs (e .1) r o
-
-one-each : (W : ℕ → Type 0) (xs : List ℕ) → ((r : ℕ) → OneOf xs r → W r) → Each W xs
-one-each W [] f = tt
-one-each W (x ∷ xs) f = (f x (inl refl), one-each W xs (λ r o. f r (inr o)))
 
 ready-earlier : (W : ℕ → Type 0) (is : List Instruction) → Ready W is none → (k r : ℕ) → Read is k r → W r ⊎ Earlier is k r
 ready-earlier W [] e k r (i, a, o) = absurd a

@@ -7,22 +7,19 @@ use native.Mathlib.Nat.{eq-or-lt-of-le, not-suc-le-zero, le-of-suc-le-suc}
 use native.Mathlib.Omega.{arith}
 use lib.ListN.{length, drop, length-drop}
 use lib.Seq.{drop-drop}
+use Rattle.laws.specs.Each.{Each}
 use Rattle.laws.specs.Outcome.{Outcome, refused, gives, gives-inj}
 use Rattle.files.specs.Fields.{fieldOf}
-use Rattle.programs.specs.Instructions.{kindOf, lengthOf, ofKind, decodeOf}
+use Rattle.programs.specs.Instructions.{uses, kindOf, lengthOf, ofKind, decodeOf}
 use Rattle.programs.specs.Inverse.{field-drop, length-some, decode-reads, named-kind}
 use Rattle.programs.specs.declared.description.Instruction.{Instruction}
 use Rattle.programs.specs.declared.description.Instruction.the-variants.{Ones, Zero, Input, Not, And, Or, Output}
 
--- the operands are among so many registers, inputs and outputs
+-- each operand is below its count: of registers, inputs and outputs
 abbrev pub InRange : ℕ → ℕ → ℕ → Instruction → Type 0
-InRange nr ni nq (Ones to) = to < nr
-InRange nr ni nq (Zero to) = to < nr
-InRange nr ni nq (Input to n) = (to < nr) × (n < ni)
-InRange nr ni nq (Not to a) = (to < nr) × (a < nr)
-InRange nr ni nq (And to a b) = (to < nr) × (a < nr) × (b < nr)
-InRange nr ni nq (Or to a b) = (to < nr) × (a < nr) × (b < nr)
-InRange nr ni nq (Output o a) = (o < nq) × (a < nr)
+InRange nr ni nq i =
+    Each (λ r. r < nr) (uses i .writes) × Each (λ r. r < nr) (uses i .reads) × Each (λ n. n < ni) (uses i .takes) ×
+    Each (λ o. o < nq) (uses i .sets)
 
 -- go on with a result, or take what is given for a refusal
 abbrev pub onGives {ℓ} : {A : Type 0} {B : Type ℓ} → Outcome A → B → (A → B) → B
@@ -52,14 +49,28 @@ pub record Standing (n : ℕ) (bytes : List ℕ) : Type 0 where
   pub formed : Formed n nr ni nq bytes
 
 -- ---- one instruction
+-- the operands of an instruction that stands at a byte of a file, and the instruction that its fields name
+abbrev pub firstOf : List ℕ → ℕ → ℕ
+firstOf file at = fieldOf file (at + 4)
+
+abbrev pub secondOf : List ℕ → ℕ → ℕ
+secondOf file at = fieldOf file (at + 6)
+
+abbrev pub thirdOf : List ℕ → ℕ → ℕ
+thirdOf file at = fieldOf file (at + 8)
+
+abbrev pub namedAt : List ℕ → ℕ → Outcome Instruction
+namedAt file at = ofKind (fieldOf file (at + 2)) (firstOf file at) (secondOf file at) (thirdOf file at)
+
 -- it stands at a byte of a file
 pub record Stands (file : List ℕ) (at : ℕ) (i : Instruction) : Type 0 where
   pub reads : decodeOf (drop at file) ≡ gives i
   pub room : at + lengthOf i ≤ length file
   pub long : fieldOf file at ≡ lengthOf i
-  pub named : ofKind (fieldOf file (at + 2)) (fieldOf file (at + 4)) (fieldOf file (at + 6)) (fieldOf file (at + 8)) ≡ gives i
+  pub named : namedAt file at ≡ gives i
 
-pub record Ready (file : List ℕ) (at nr ni nq : ℕ) : Type 0 where
+-- some instruction stands there, with its operands in range
+pub record ReadyAt (file : List ℕ) (at nr ni nq : ℕ) : Type 0 where
   pub i : Instruction
   pub stands : Stands file at i
   pub range : InRange nr ni nq i
@@ -67,9 +78,9 @@ pub record Ready (file : List ℕ) (at nr ni nq : ℕ) : Type 0 where
 -- an AND or an OR stands there, with its operands in range
 pub record Gate (file : List ℕ) (at nr : ℕ) : Type 0 where
   pub room : at + 10 ≤ length file
-  pub into : fieldOf file (at + 4) < nr
-  pub left : fieldOf file (at + 6) < nr
-  pub right : fieldOf file (at + 8) < nr
+  pub into : firstOf file at < nr
+  pub left : secondOf file at < nr
+  pub right : thirdOf file at < nr
 
 pub reads-stands : (file : List ℕ) (at : ℕ) (i : Instruction) → decodeOf (drop at file) ≡ gives i → Stands file at i
 reads-stands file at i e =
@@ -97,17 +108,17 @@ pub formed-next : (n nr ni nq : ℕ) (file : List ℕ) (at : ℕ) (i : Instructi
 formed-next n nr ni nq file at i e f =
     rw (drop-drop (lengthOf i) at file) at (formed-first n (drop at file) i e nr ni nq f .1)
 
-pub formed-ready : (n nr ni nq : ℕ) (file : List ℕ) (at : ℕ) → Formed (suc n) nr ni nq (drop at file) → Ready file at nr ni nq
+pub formed-ready : (n nr ni nq : ℕ) (file : List ℕ) (at : ℕ) → Formed (suc n) nr ni nq (drop at file) → ReadyAt file at nr ni nq
 unfolding Formed
 formed-ready n nr ni nq file at h = by (decodeOf (drop at file)) refl h
   where
     by : (o : Outcome Instruction) → decodeOf (drop at file) ≡ o →
-        onGives o ⊥ (λ i. InRange nr ni nq i × Formed n nr ni nq (drop (lengthOf i) (drop at file))) → Ready file at nr ni nq
+        onGives o ⊥ (λ i. InRange nr ni nq i × Formed n nr ni nq (drop (lengthOf i) (drop at file))) → ReadyAt file at nr ni nq
     by (refused k) e z = absurd z
     by (gives i) e z = record { i = i; stands = reads-stands file at i e; range = z .0 }
 
 -- in the code's words: something is left, and what stands at the front of it
-pub some-ready : (n nr ni nq : ℕ) (file : List ℕ) (at : ℕ) → 0 < n → Formed n nr ni nq (drop at file) → Ready file at nr ni nq
+pub some-ready : (n nr ni nq : ℕ) (file : List ℕ) (at : ℕ) → 0 < n → Formed n nr ni nq (drop at file) → ReadyAt file at nr ni nq
 some-ready n nr ni nq file at l f =
     let e : n ≡ suc (n - 1) = omega arith in
     formed-ready (n - 1) nr ni nq file at (rw e at f)
@@ -125,7 +136,8 @@ formed-less (suc m) (suc n) nr ni nq bytes l h =
     onGives-map (decodeOf bytes) _ _ (λ i g. (g .0, formed-less m n nr ni nq (drop (lengthOf i) bytes) (le-of-suc-le-suc l) (g .1))) h
 
 -- ---- the kind tells the instruction
-last-kind : (k : ℕ) (i : Instruction) → k ≡ kindOf i → (k ≡ 1 → ⊥) → (k ≡ 2 → ⊥) → (k ≡ 3 → ⊥) → (k ≡ 4 → ⊥) → (k ≡ 5 → ⊥) → (k ≡ 6 → ⊥) → k ≡ 7
+last-kind : (k : ℕ) (i : Instruction) → k ≡ kindOf i → (k ≡ 1 → ⊥) → (k ≡ 2 → ⊥) → (k ≡ 3 → ⊥) → (k ≡ 4 → ⊥) → (k ≡ 5 → ⊥) →
+    (k ≡ 6 → ⊥) → k ≡ 7
 last-kind k (Ones to) e n1 n2 n3 n4 n5 n6 = absurd (n1 e)
 last-kind k (Zero to) e n1 n2 n3 n4 n5 n6 = absurd (n2 e)
 last-kind k (Input to n) e n1 n2 n3 n4 n5 n6 = absurd (n3 e)
@@ -143,49 +155,56 @@ long-kind k (And to a b) e n1 n2 = omega arith
 long-kind k (Or to a b) e n1 n2 = omega arith
 long-kind k (Output o a) e n1 n2 = omega arith
 
-module _ (file : List ℕ) (at nr ni nq : ℕ) (r : Ready file at nr ni nq) where
+module _ (file : List ℕ) (at nr ni nq : ℕ) (r : ReadyAt file at nr ni nq) where
   pub ready-room : at + 6 ≤ length file
   ready-room = omega (arith, r .stands .room, length-some (r .i))
 
   -- the instruction that the kind's clause says is the one that stands there
-  told : (i : Instruction) → ofKind (fieldOf file (at + 2)) (fieldOf file (at + 4)) (fieldOf file (at + 6)) (fieldOf file (at + 8)) ≡ gives i →
-      Stands file at i × InRange nr ni nq i
-  told i e =
+  by-kind : (i : Instruction) → namedAt file at ≡ gives i → Stands file at i × InRange nr ni nq i
+  by-kind i e =
       let q : r .i ≡ i = gives-inj (sym (r .stands .named) ∙ e) in
       (rw q at (r .stands), rw q at (r .range))
 
   module _ (k : ℕ) (is-k : k ≡ fieldOf file (at + 2)) where
     kind-is : k ≡ kindOf (r .i)
-    kind-is =
-        is-k ∙ named-kind (fieldOf file (at + 2)) (fieldOf file (at + 4)) (fieldOf file (at + 6)) (fieldOf file (at + 8)) (r .i) (r .stands .named)
+    kind-is = is-k ∙ named-kind (fieldOf file (at + 2)) (firstOf file at) (secondOf file at) (thirdOf file at) (r .i) (r .stands .named)
 
-    pub is-ones : k ≡ 1 → Stands file at (Ones (fieldOf file (at + 4))) × (fieldOf file (at + 4) < nr)
-    is-ones e = told (Ones (fieldOf file (at + 4))) (rw (sym is-k ∙ e))
+    pub is-ones : k ≡ 1 → Stands file at (Ones (firstOf file at)) × (firstOf file at < nr)
+    is-ones e =
+        let s = by-kind (Ones (firstOf file at)) (rw (sym is-k ∙ e)) in
+        (s .0, s .1 .0 .0)
 
-    pub is-zero : k ≡ 2 → Stands file at (Zero (fieldOf file (at + 4))) × (fieldOf file (at + 4) < nr)
-    is-zero e = told (Zero (fieldOf file (at + 4))) (rw (sym is-k ∙ e))
+    pub is-zero : k ≡ 2 → Stands file at (Zero (firstOf file at)) × (firstOf file at < nr)
+    is-zero e =
+        let s = by-kind (Zero (firstOf file at)) (rw (sym is-k ∙ e)) in
+        (s .0, s .1 .0 .0)
 
-    pub is-input : k ≡ 3 → Stands file at (Input (fieldOf file (at + 4)) (fieldOf file (at + 6))) × ((fieldOf file (at + 4) < nr) × (fieldOf file (at + 6) < ni))
-    is-input e = told (Input (fieldOf file (at + 4)) (fieldOf file (at + 6))) (rw (sym is-k ∙ e))
+    pub is-input : k ≡ 3 → Stands file at (Input (firstOf file at) (secondOf file at)) × ((firstOf file at < nr) × (secondOf file at < ni))
+    is-input e =
+        let s = by-kind (Input (firstOf file at) (secondOf file at)) (rw (sym is-k ∙ e)) in
+        (s .0, (s .1 .0 .0, s .1 .2 .0))
 
-    pub is-not : k ≡ 4 → Stands file at (Not (fieldOf file (at + 4)) (fieldOf file (at + 6))) × ((fieldOf file (at + 4) < nr) × (fieldOf file (at + 6) < nr))
-    is-not e = told (Not (fieldOf file (at + 4)) (fieldOf file (at + 6))) (rw (sym is-k ∙ e))
+    pub is-not : k ≡ 4 → Stands file at (Not (firstOf file at) (secondOf file at)) × ((firstOf file at < nr) × (secondOf file at < nr))
+    is-not e =
+        let s = by-kind (Not (firstOf file at) (secondOf file at)) (rw (sym is-k ∙ e)) in
+        (s .0, (s .1 .0 .0, s .1 .1 .0))
 
-    pub is-and : k ≡ 5 → Stands file at (And (fieldOf file (at + 4)) (fieldOf file (at + 6)) (fieldOf file (at + 8))) × Gate file at nr
+    pub is-and : k ≡ 5 → Stands file at (And (firstOf file at) (secondOf file at) (thirdOf file at)) × Gate file at nr
     is-and e =
-        let s = told (And (fieldOf file (at + 4)) (fieldOf file (at + 6)) (fieldOf file (at + 8))) (rw (sym is-k ∙ e)) in
-        (s .0, record { room = s .0 .room; into = s .1 .0; left = s .1 .1; right = s .1 .2 })
+        let s = by-kind (And (firstOf file at) (secondOf file at) (thirdOf file at)) (rw (sym is-k ∙ e)) in
+        (s .0, record { room = s .0 .room; into = s .1 .0 .0; left = s .1 .1 .0; right = s .1 .1 .1 .0 })
 
-    pub is-or : k ≡ 6 → Stands file at (Or (fieldOf file (at + 4)) (fieldOf file (at + 6)) (fieldOf file (at + 8))) × Gate file at nr
+    pub is-or : k ≡ 6 → Stands file at (Or (firstOf file at) (secondOf file at) (thirdOf file at)) × Gate file at nr
     is-or e =
-        let s = told (Or (fieldOf file (at + 4)) (fieldOf file (at + 6)) (fieldOf file (at + 8))) (rw (sym is-k ∙ e)) in
-        (s .0, record { room = s .0 .room; into = s .1 .0; left = s .1 .1; right = s .1 .2 })
+        let s = by-kind (Or (firstOf file at) (secondOf file at) (thirdOf file at)) (rw (sym is-k ∙ e)) in
+        (s .0, record { room = s .0 .room; into = s .1 .0 .0; left = s .1 .1 .0; right = s .1 .1 .1 .0 })
 
     pub is-output : (k ≡ 1 → ⊥) → (k ≡ 2 → ⊥) → (k ≡ 3 → ⊥) → (k ≡ 4 → ⊥) → (k ≡ 5 → ⊥) → (k ≡ 6 → ⊥) →
-        Stands file at (Output (fieldOf file (at + 4)) (fieldOf file (at + 6))) × ((fieldOf file (at + 4) < nq) × (fieldOf file (at + 6) < nr))
+        Stands file at (Output (firstOf file at) (secondOf file at)) × ((firstOf file at < nq) × (secondOf file at < nr))
     is-output n1 n2 n3 n4 n5 n6 =
         let e : k ≡ 7 = last-kind k (r .i) kind-is n1 n2 n3 n4 n5 n6 in
-        told (Output (fieldOf file (at + 4)) (fieldOf file (at + 6))) (rw (sym is-k ∙ e))
+        let s = by-kind (Output (firstOf file at) (secondOf file at)) (rw (sym is-k ∙ e)) in
+        (s .0, (s .1 .3 .0, s .1 .1 .0))
 
     -- all but ONES and ZERO have a second operand
     pub second-room : (k ≡ 1 → ⊥) → (k ≡ 2 → ⊥) → at + 8 ≤ length file
@@ -207,11 +226,11 @@ module _ (nr ni nq : ℕ) (file : List ℕ) (kind : ℕ) (low : 5 ≤ kind) (hig
       ⊎-elim
       (λ (e : 5 ≡ kind).
       let s = is-and file at nr ni nq r (fieldOf file (at + 2)) refl (k ∙ sym e) in
-      (s .1, formed-next n nr ni nq file at (And (fieldOf file (at + 4)) (fieldOf file (at + 6)) (fieldOf file (at + 8))) (s .0 .reads) f))
+      (s .1, formed-next n nr ni nq file at (And (firstOf file at) (secondOf file at) (thirdOf file at)) (s .0 .reads) f))
       (λ (e : 5 < kind).
       let six : kind ≡ 6 = omega arith in
       let s = is-or file at nr ni nq r (fieldOf file (at + 2)) refl (k ∙ six) in
-      (s .1, formed-next n nr ni nq file at (Or (fieldOf file (at + 4)) (fieldOf file (at + 6)) (fieldOf file (at + 8))) (s .0 .reads) f))
+      (s .1, formed-next n nr ni nq file at (Or (firstOf file at) (secondOf file at) (thirdOf file at)) (s .0 .reads) f))
       (eq-or-lt-of-le low)
 
   -- the same in the words of code that has passed one, two and three of them
@@ -223,7 +242,8 @@ module _ (nr ni nq : ℕ) (file : List ℕ) (kind : ℕ) (low : 5 ≤ kind) (hig
     pub one-passed : fieldOf file (at + 2) ≡ kind → Gate file at nr × Formed (suc (suc (suc n))) nr ni nq (drop (at + 10) file)
     one-passed k = gate-first (suc (suc (suc n))) at f k
 
-    pub two-passed : fieldOf file (at + 2) ≡ kind → fieldOf file (at + 12) ≡ kind → Gate file (at + 10) nr × Formed (suc (suc n)) nr ni nq (drop (at + 20) file)
+    pub two-passed : fieldOf file (at + 2) ≡ kind → fieldOf file (at + 12) ≡ kind →
+        Gate file (at + 10) nr × Formed (suc (suc n)) nr ni nq (drop (at + 20) file)
     two-passed k l = gate-at (suc (suc n)) (at + 10) (at + 12) (at + 20) (omega arith) (omega arith) (one-passed k .1) l
 
     pub three-passed : fieldOf file (at + 2) ≡ kind → fieldOf file (at + 12) ≡ kind → fieldOf file (at + 22) ≡ kind →
@@ -231,35 +251,24 @@ module _ (nr ni nq : ℕ) (file : List ℕ) (kind : ℕ) (low : 5 ≤ kind) (hig
     three-passed k l m = gate-at (suc n) (at + 20) (at + 22) (at + 30) (omega arith) (omega arith) (two-passed k l .1) m
 
     pub four-passed : Four file at kind → Gate file (at + 30) nr × Formed n nr ni nq (drop (at + 40) file)
-    four-passed q = gate-at n (at + 30) (at + 32) (at + 40) (omega arith) (omega arith) (three-passed (q .first) (q .second) (q .third) .1) (q .fourth)
+    four-passed q =
+        gate-at n (at + 30) (at + 32) (at + 40) (omega arith) (omega arith) (three-passed (q .first) (q .second) (q .third) .1) (q .fourth)
 
 -- what code that tries the four kinds needs
 module _ (file : List ℕ) (at kind : ℕ) (low : 5 ≤ kind) (high : kind ≤ 6) (s : Standing 4 (drop at file)) where
+  room-at : (n place : ℕ) → Formed (suc n) (s .nr) (s .ni) (s .nq) (drop place file) → place + 6 ≤ length file
+  room-at n place f = ready-room file place (s .nr) (s .ni) (s .nq) (formed-ready n (s .nr) (s .ni) (s .nq) file place f)
+
   pub four-room : at + 6 ≤ length file
-  four-room = ready-room file at (s .nr) (s .ni) (s .nq) (formed-ready 3 (s .nr) (s .ni) (s .nq) file at (s .formed))
+  four-room = room-at 3 at (s .formed)
 
   module _ (k : fieldOf file (at + 2) ≡ kind) where
     pub three-room : at + 16 ≤ length file
-    three-room =
-        omega (
-          arith,
-          ready-room file (at + 10) (s .nr) (s .ni) (s .nq)
-              (formed-ready 2 (s .nr) (s .ni) (s .nq) file (at + 10) (one-passed (s .nr) (s .ni) (s .nq) file kind low high 0 at (s .formed) k .1)),
-        )
+    three-room = omega (arith, room-at 2 (at + 10) (one-passed (s .nr) (s .ni) (s .nq) file kind low high 0 at (s .formed) k .1))
 
     module _ (l : fieldOf file (at + 12) ≡ kind) where
       pub two-room : at + 26 ≤ length file
-      two-room =
-          omega (
-            arith,
-            ready-room file (at + 20) (s .nr) (s .ni) (s .nq)
-                (formed-ready 1 (s .nr) (s .ni) (s .nq) file (at + 20) (two-passed (s .nr) (s .ni) (s .nq) file kind low high 0 at (s .formed) k l .1)),
-          )
+      two-room = omega (arith, room-at 1 (at + 20) (two-passed (s .nr) (s .ni) (s .nq) file kind low high 0 at (s .formed) k l .1))
 
       pub one-room : fieldOf file (at + 22) ≡ kind → at + 36 ≤ length file
-      one-room m =
-          omega (
-            arith,
-            ready-room file (at + 30) (s .nr) (s .ni) (s .nq)
-                (formed-ready 0 (s .nr) (s .ni) (s .nq) file (at + 30) (three-passed (s .nr) (s .ni) (s .nq) file kind low high 0 at (s .formed) k l m .1)),
-          )
+      one-room m = omega (arith, room-at 0 (at + 30) (three-passed (s .nr) (s .ni) (s .nq) file kind low high 0 at (s .formed) k l m .1))

@@ -12,7 +12,8 @@ use Rattle.files.specs.Live.{weight}
 use Rattle.programs.specs.Instructions.{uses}
 use Rattle.programs.specs.declared.description.Instruction.{Instruction}
 use Rattle.programs.specs.declared.description.Instruction.the-variants.{Or}
-use Rattle.checker.specs.Accepting.{OneOf, Ready, none, ready-more, ready-less, ready-append, ready-blocks, ready-stay}
+use Rattle.laws.specs.Every.{OneOf}
+use Rattle.checker.specs.Accepting.{Ready, none, ready-more, ready-less, ready-append, ready-blocks, ready-stay}
 use Rattle.compiler.specs.Translation.{regB, regN, regH, regV, regX, regY, clear, begin, apart, split, ifSet, spell, mark, met, marks, carry, keep, tell, end, liveBefore, column}
 use Rattle.compiler.specs.Room.{Roomy, live-next}
 use Rattle.compiler.specs.Ranges.{marks-each}

@@ -8,3 +8,4 @@ pub mod Lay
 pub mod Each
 pub mod From
 pub mod Outcome
+pub mod Every

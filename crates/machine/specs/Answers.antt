@@ -16,7 +16,8 @@ use Rattle.programs.specs.Header.{header-length}
 use Rattle.programs.specs.declared.description.Program.{Program}
 use Rattle.programs.specs.declared.description.Instruction.{Instruction}
 use Rattle.machine.specs.Meaning.{words, exec-long}
-use Rattle.checker.specs.Checks.{Code, every, also, inRange, instructionOf, codeOf, nothing, checkOf}
+use Rattle.laws.specs.Every.{every}
+use Rattle.checker.specs.Checks.{Code, also, inRange, instructionOf, codeOf, nothing, checkOf}
 use Rattle.machine.specs.Runs.{Ended, steps, runOf, roomFor, startOn, resumeOn, startOf, resumeOf}
 use Rattle.checker.specs.Standing.{readOf, Formed}
 use Rattle.machine.specs.Turns.{state, Ends}

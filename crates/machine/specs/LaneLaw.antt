@@ -21,7 +21,8 @@ use Rattle.programs.specs.declared.description.Instruction.the-variants.{Ones, 
 use Rattle.machine.specs.Meaning.{Gates, words, bits, State, step, exec, step-long, exec-long}
 use Rattle.checker.specs.Checks.{Code, checkOf}
 use Rattle.machine.specs.Runs.{Ended, steps, carried, runOf, startOn, resumeOn, startOf, resumeOf}
-use Rattle.checker.specs.Accepting.{OneOf, Fits, Ready, Sets, none, Sound}
+use Rattle.laws.specs.Every.{OneOf}
+use Rattle.checker.specs.Accepting.{Fits, Ready, Sets, none, Sound}
 use Rattle.checker.specs.Encoding.{accepted-sound}
 use Rattle.machine.specs.Resuming.{Room, Enough, Holds, Sized, sized-cleared, sized-lent}
 use Rattle.machine.specs.Resuming.{cleared, lent, admitted, startRun, resumeRun, start-is, resume-is, start-whole, resume-whole}

@@ -18,7 +18,7 @@ use Rattle.programs.specs.declared.description.Instruction.the-variants.{Ones, 
 use Rattle.machine.specs.Meaning.{words, State, step, exec}
 use Rattle.machine.specs.Runs.{steps, answerOf}
 use Rattle.machine.specs.declared.runs.Run.{Run}
-use Rattle.checker.specs.Standing.{InRange, onGives, readOf, Formed, formed-less, Known, Standing, Stands, Ready, Gate, read-first, some-ready, ready-room, is-ones, is-zero, is-input, is-not, is-and, is-or, is-output, formed-next, Four, one-passed, two-passed, three-passed, four-passed}
+use Rattle.checker.specs.Standing.{InRange, onGives, readOf, Formed, formed-less, Known, Standing, Stands, ReadyAt, Gate, read-first, some-ready, ready-room, is-ones, is-zero, is-input, is-not, is-and, is-or, is-output, formed-next, Four, one-passed, two-passed, three-passed, four-passed}
 
 abbrev pub state : List ℕ → List ℕ → State ℕ
 state rs os = record { registers = rs; outputs = os }
@@ -65,7 +65,7 @@ module _ (file : List ℕ) (at : ℕ) (ins rs os : List ℕ) where
       length os′ ≡ length os → Does file at ins rs os (at + lengthOf i) rs′ os′
   does i rs′ os′ s e l w = record { i = i; reads = s .reads; ahead = refl; does = e; long = l; wide = w }
 
-  module _ (r : Ready file at (length rs) (length ins) (length os)) (k : ℕ) (is-k : k ≡ fieldOf file (at + 2)) where
+  module _ (r : ReadyAt file at (length rs) (length ins) (length os)) (k : ℕ) (is-k : k ≡ fieldOf file (at + 2)) where
     pub does-and : k ≡ 5 → (rs′ : List ℕ) → rs′ ≡ andWords file at rs → Does file at ins rs os (at + 10) rs′ os
     unfolding andWords
     does-and e rs′ q =
@@ -143,7 +143,7 @@ module _ (file : List ℕ) (n₀ from : ℕ) (rs₀ : List ℕ) where
         }
 
     module _ (l : 0 < n) (k : Known n₀ (length rs₀) (drop from file)) where
-      along-ready : Ready file at (length rs) (k .ni) (k .nq)
+      along-ready : ReadyAt file at (length rs) (k .ni) (k .nq)
       along-ready = rw (g .long) (some-ready n (length rs₀) (k .ni) (k .nq) file at l (g .formed (k .ni) (k .nq) (k .formed)))
 
       pub along-room : at + 6 ≤ length file
@@ -271,7 +271,7 @@ module _ (file : List ℕ) (ins rs₀ os₀ : List ℕ) (n₀ from : ℕ) where
           wide = g .wide;
         }
 
-    pub going-ready : 0 < n → Ready file at (length rs) (length ins) (length os)
+    pub going-ready : 0 < n → ReadyAt file at (length rs) (length ins) (length os)
     going-ready l = rw (g .long, g .wide) (some-ready n (length rs₀) (length ins) (length os₀) file at l (g .formed))
 
     pub going-known : Known n (length rs) (drop at file)
@@ -309,7 +309,7 @@ module _ (file : List ℕ) (from n : ℕ) where
         }
 
     module _ (s : Standing n (drop from file)) where
-      past-ready : Ready file at (s .nr) (s .ni) (s .nq)
+      past-ready : ReadyAt file at (s .nr) (s .ni) (s .nq)
       past-ready = some-ready (n - k) (s .nr) (s .ni) (s .nq) file at (omega arith) (g .formed (s .nr) (s .ni) (s .nq) (s .formed))
 
       pub past-room : at + 6 ≤ length file

@@ -4,7 +4,7 @@ ghost use mathlib.Core.Bool.{true};
 ghost use Prim.Native.Nat.{_+_, _≤_, _<_, min};
 ghost use lib.ListN.{drop, length};
 ghost use Rattle.files.specs.Fields.{fieldOf};
-ghost use Rattle.checker.specs.Standing.{Formed, Four, Gate, Known, Ready, Standing};
+ghost use Rattle.checker.specs.Standing.{Formed, Four, Gate, Known, ReadyAt, Standing};
 ghost use Rattle.machine.specs.Turns.{Along, andWords, Carried, Does, orWords};
 use programs::Instruction;
 
@@ -52,7 +52,7 @@ fn step_at(
     registers: &mut [u64],
     outputs: &mut [u64],
 ) -> usize
-    requires { ⌜ Ready (now file) at (length (now registers)) (length (now inputs)) (length (now outputs)) ⌝ }
+    requires { ⌜ ReadyAt (now file) at (length (now registers)) (length (now inputs)) (length (now outputs)) ⌝ }
     ensures { λ r. ⌜ Does (now (file .entry)) at (now (inputs .entry)) (now (registers .entry)) (now (outputs .entry)) r (now (registers .exit)) (now (outputs .exit)) ⌝ }
 {
     let kind = field_at(file, at + 2);

@@ -1,6 +1,6 @@
 -- `checker::in_range` meets its contract: by the kind. Assumes nothing.
 use borrow.Author.Needs.{needs}
-use Rattle.checker.specs.Checking.{range-ones, range-zero, range-input, range-not, range-and, range-or, range-output}
+use Rattle.checker.specs.Checking.{range-tested}
 use Rattle.checker.proofs.checking.in_range.Statement.{statement}
 use Rattle.checker.proofs.checking.in_range.Tie as tie
 
@@ -68,25 +68,25 @@ cast-result-14 : tie.Need-cast-result-14
 cast-result-14 c = search needs
 
 returns : tie.Need-returns
-returns c = range-ones (c .before .before .before .args .p) _ _ (c .before .i .given .1)
+returns c = range-tested (c .before .before .before .args .p) _ _ (c .before .i .given .1)
 
 returns-2 : tie.Need-returns-2
-returns-2 c = range-zero (c .before .before .before .args .p) _ _ (c .before .i2 .given .1)
+returns-2 c = range-tested (c .before .before .before .args .p) _ _ (c .before .i2 .given .1)
 
 returns-3 : tie.Need-returns-3
-returns-3 c = range-input (c .before .before .before .before .args .p) _ _ _ (c .before .before .i3 .given .1)
+returns-3 c = range-tested (c .before .before .before .before .args .p) _ _ (c .before .before .i3 .given .1)
 
 returns-4 : tie.Need-returns-4
-returns-4 c = range-not (c .before .before .before .args .p) _ _ _ (c .before .i4 .given .1)
+returns-4 c = range-tested (c .before .before .before .args .p) _ _ (c .before .i4 .given .1)
 
 returns-5 : tie.Need-returns-5
-returns-5 c = range-and (c .before .before .before .args .p) _ _ _ _ (c .before .i5 .given .1)
+returns-5 c = range-tested (c .before .before .before .args .p) _ _ (c .before .i5 .given .1)
 
 returns-6 : tie.Need-returns-6
-returns-6 c = range-or (c .before .before .before .args .p) _ _ _ _ (c .before .i6 .given .1)
+returns-6 c = range-tested (c .before .before .before .args .p) _ _ (c .before .i6 .given .1)
 
 returns-7 : tie.Need-returns-7
-returns-7 c = range-output (c .before .before .before .before .args .p) _ _ _ (c .before .before .i7 .given .1)
+returns-7 c = range-tested (c .before .before .before .before .args .p) _ _ (c .before .before .i7 .given .1)
 
 pub in-range-spec : {M : Type 1} → statement M
 in-range-spec =

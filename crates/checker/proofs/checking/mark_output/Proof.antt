@@ -29,7 +29,7 @@ cast-set : tie.Need-cast-set
 cast-set c = search needs
 
 element-write-set : tie.Need-element-write-set
-element-write-set c = let r = rw (c .before .i .given .1) at (c .before .before .before .pre .0) in r .0
+element-write-set c = let r = rw (c .before .i .given .1) at (c .before .before .before .pre .0) in r .3 .0
 
 returns : tie.Need-returns
 returns c = rw (c .enum-told .given .1) (flags-none _)
@@ -52,7 +52,7 @@ returns-6 c = rw (c .enum-told6 .given .1) (flags-none _)
 returns-7 : tie.Need-returns-7
 returns-7 c =
     let r = rw (c .before .i .given .1) at (c .before .before .before .pre .0) in
-    rw (c .before .i .given .1) (flags-one _ _ (rw (c .before .before .before .pre .1) (r .0)))
+    rw (c .before .i .given .1) (flags-one _ _ (rw (c .before .before .before .pre .1) (r .3 .0)))
 
 pub mark-output-spec : {M : Type 1} → statement M
 mark-output-spec =

@@ -1,6 +1,7 @@
 -- `checker::readable` meets its contract: by the kind. Assumes nothing.
 use borrow.Author.Needs.{needs}
-use Rattle.checker.specs.Checking.{flagged, and-true}
+use mathlib.Core.Bool.{and-true}
+use Rattle.checker.specs.Checking.{flagged}
 use Rattle.checker.proofs.checking.readable.Statement.{statement}
 use Rattle.checker.proofs.checking.readable.Tie as tie
 
@@ -20,7 +21,7 @@ cast-result : tie.Need-cast-result
 cast-result c = search needs
 
 element-copy-out-result : tie.Need-element-copy-out-result
-element-copy-out-result c = let r = rw (c .before .i .given .1) at (c .before .before .before .pre) in r .1
+element-copy-out-result c = let r = rw (c .before .i .given .1) at (c .before .before .before .pre) in r .1 .0
 
 enum-known-i-2 : tie.Need-enum-known-i-2
 enum-known-i-2 c = search needs
@@ -29,13 +30,13 @@ cast-result-2 : tie.Need-cast-result-2
 cast-result-2 c = search needs
 
 element-copy-out-result-2 : tie.Need-element-copy-out-result-2
-element-copy-out-result-2 c = let r = rw (c .before .i2 .given .1) at (c .before .before .before .pre) in r .1
+element-copy-out-result-2 c = let r = rw (c .before .i2 .given .1) at (c .before .before .before .pre) in r .1 .0
 
 cast-result-3 : tie.Need-cast-result-3
 cast-result-3 c = search needs
 
 element-copy-out-result-3 : tie.Need-element-copy-out-result-3
-element-copy-out-result-3 c = let r = rw (c .before .before .i2 .given .1) at (c .before .before .before .before .pre) in r .2
+element-copy-out-result-3 c = let r = rw (c .before .before .i2 .given .1) at (c .before .before .before .before .pre) in r .1 .1 .0
 
 enum-known-i-3 : tie.Need-enum-known-i-3
 enum-known-i-3 c = search needs
@@ -44,13 +45,13 @@ cast-result-4 : tie.Need-cast-result-4
 cast-result-4 c = search needs
 
 element-copy-out-result-4 : tie.Need-element-copy-out-result-4
-element-copy-out-result-4 c = let r = rw (c .before .i3 .given .1) at (c .before .before .before .pre) in r .1
+element-copy-out-result-4 c = let r = rw (c .before .i3 .given .1) at (c .before .before .before .pre) in r .1 .0
 
 cast-result-5 : tie.Need-cast-result-5
 cast-result-5 c = search needs
 
 element-copy-out-result-5 : tie.Need-element-copy-out-result-5
-element-copy-out-result-5 c = let r = rw (c .before .before .i3 .given .1) at (c .before .before .before .before .pre) in r .2
+element-copy-out-result-5 c = let r = rw (c .before .before .i3 .given .1) at (c .before .before .before .before .pre) in r .1 .1 .0
 
 enum-known-i-4 : tie.Need-enum-known-i-4
 enum-known-i-4 c = search needs
@@ -59,7 +60,7 @@ cast-result-6 : tie.Need-cast-result-6
 cast-result-6 c = search needs
 
 element-copy-out-result-6 : tie.Need-element-copy-out-result-6
-element-copy-out-result-6 c = let r = rw (c .before .i4 .given .1) at (c .before .before .before .pre) in r .1
+element-copy-out-result-6 c = let r = rw (c .before .i4 .given .1) at (c .before .before .before .pre) in r .1 .0
 
 returns : tie.Need-returns
 returns c = search needs
