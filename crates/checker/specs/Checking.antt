@@ -12,10 +12,11 @@ use lib.Dec.{ltb, eqb}
 use lib.ListN.{length, getD, set, drop, length-drop, length-set, replicate, length-replicate}
 use lib.Seq.{drop-drop, getD-set-same, getD-set-other}
 use Rattle.laws.specs.Tests.{both}
-use Rattle.laws.specs.Sums.{any}
-use Rattle.laws.specs.Each.{each-more}
+use Rattle.laws.specs.Sums.{any, any-more, any-found}
+use Rattle.laws.specs.Each.{Each, each-more}
 use Rattle.laws.specs.Every.{every, every-below}
-use Rattle.laws.specs.Outcome.{Outcome, refused, gives, refuse, _>>_, _>>=_, mapped, passed, bound, gives-inj, bind-is, mapped-mapped}
+use Rattle.laws.specs.Outcome.{Outcome, refused, gives, refuse, _>>_, _>>=_, mapped}
+use Rattle.laws.specs.Outcome.{passed, bound, gives-inj, bind-is, mapped-mapped}
 use Rattle.files.specs.Fields.{fieldOf}
 use Rattle.programs.specs.Limits.{most-registers, most-inputs, most-outputs, within, unwritten, unset}
 use Rattle.programs.specs.Instructions.{uses, lengthOf, sizedOf, decodeOf, decodeAt}
@@ -113,11 +114,25 @@ also-none : (t : ℕ → Bool) → t ≡ also t []
 unfolding also
 also-none t = fun-ext (λ r. refl)
 
-pub flags-none : (w : List Bool) → Flags [] w w
-flags-none w = record { now-flagged = also-none (flagged w); long = refl }
+-- where the list is of none, or of one below the number of flags
+pub unmarked : (xs : List ℕ) (w : List Bool) → xs ≡ [] → Flags xs w w
+unmarked xs w e = rw e (record { now-flagged = also-none (flagged w); long = refl })
 
-pub flags-one : (w : List Bool) (x : ℕ) → x < length w → Flags (x ∷ []) w (set w x true)
-flags-one w x h = record { now-flagged = flag-set w x h; long = length-set w x true }
+pub marked : (xs : List ℕ) (n x : ℕ) (w : List Bool) → xs ≡ x ∷ [] → Each (λ r. r < n) xs × (length w ≡ n) → Flags xs w (set w x true)
+marked xs n x w e r =
+    let below = rw e at (r .0) in
+    rw e (record { now-flagged = flag-set w x (rw (r .1) (below .0)); long = length-set w x true })
+
+-- whether one of the first flags is missing, tried flag by flag
+module _ (s : List Bool) where
+  pub missing-found : (n o : ℕ) → o < n → not (getD s o false) ≡ true → true ≡ any n (λ k. not (flagged s k))
+  unfolding flagged
+  missing-found n o l e = sym (any-found n o (λ k. not (flagged s k)) l e)
+
+  pub missing-more : (o : ℕ) → not (getD s o false) ≡ false → any o (λ k. not (flagged s k)) ≡ false →
+      any (o + 1) (λ k. not (flagged s k)) ≡ false
+  unfolding flagged
+  missing-more o e q = any-more o (λ k. not (flagged s k)) e q
 
 -- ---- one instruction
 module _ (file : List ℕ) (at : ℕ) (p : Program) (written : ℕ → Bool) where
@@ -211,10 +226,13 @@ sound file at registers to a b w e q r l m n f =
       right-written = rw (← r) (s .1);
     }
 
--- length and kind as one number
-pub head-parts : (file : List ℕ) (at kind x : ℕ) → x ≡ fieldOf file at + 65536 * fieldOf file (at + 2) → fieldOf file at < 65536 →
-    x ≡ 10 + 65536 * kind → (fieldOf file at ≡ 10) × (fieldOf file (at + 2) ≡ kind)
-head-parts file at kind x e l q = (omega arith, omega arith)
+-- where a run of one kind, AND or OR, is passed
+pub record GateRun (file : List ℕ) (from kind registers : ℕ) (w : List Bool) : Type 0 where
+  pub few : registers ≤ most-registers
+  pub long : length w ≡ most-registers
+  pub inside : from ≤ length file
+  pub low : 5 ≤ kind
+  pub high : kind ≤ 6
 
 -- passing instructions that write registers and set no output, for every program with so many registers
 pub record Passes (file : List ℕ) (registers n₀ from : ℕ) (w₀ : List Bool) (n at : ℕ) (w : List Bool) : Type 0 where
@@ -239,47 +257,60 @@ module _ (file : List ℕ) (registers n₀ from : ℕ) (w₀ : List Bool) where
   pub passes-none : (n : ℕ) → n ≡ n₀ → from ≤ length file → Passes file registers n₀ from w₀ n from w₀
   passes-none n e h = record { same = λ p q set. rw e; less = omega arith; inside = h; long = refl }
 
-  module _ (n at : ℕ) (w : List Bool) (g : Passes file registers n₀ from w₀ n at w) (m : ℕ) (q : n ≡ suc m) where
-    passes-suc : (i : Instruction) (w′ : List Bool) →
+  module _ (n at : ℕ) (w : List Bool) (g : Passes file registers n₀ from w₀ n at w) where
+    pub passes-then : (m to : ℕ) (v : List Bool) → Passes file registers n at w m to v → Passes file registers n₀ from w₀ m to v
+    passes-then m to v b =
+        record {
+          same = λ p q set. (b .same p q set ∙ g .same p q set);
+          less = omega (arith, b .less, g .less);
+          inside = b .inside;
+          long = b .long ∙ g .long;
+        }
+
+    passes-suc : (m : ℕ) → n ≡ suc m → (i : Instruction) (w′ : List Bool) →
         ((p : Program) → p .registers ≡ registers → instructionOf p (flagged w) (drop at file) ≡ gives i) → uses i .sets ≡ [] →
-        flagged w′ ≡ also (flagged w) (uses i .writes) → length w′ ≡ length w → at + lengthOf i ≤ length file →
-        Passes file registers n₀ from w₀ m (at + lengthOf i) w′
-    passes-suc i w′ e s f l h =
+        Flags (uses i .writes) w w′ → at + lengthOf i ≤ length file → Passes file registers n₀ from w₀ m (at + lengthOf i) w′
+    passes-suc m q i w′ e s f h =
         record {
           same = λ p r set. (plain p set ∙ (sym (rest-more file p (flagged w) set m at i (e p r)) ∙ rw q at (g .same p r set)));
           less = omega (arith, g .less);
           inside = h;
-          long = l ∙ g .long;
+          long = f .long ∙ g .long;
         }
       where
         plain : (p : Program) (set : ℕ → Bool) → restOf file p (flagged w′) set m (at + lengthOf i) ≡
             restOf file p (also (flagged w) (uses i .writes)) (also set (uses i .sets)) m (at + lengthOf i)
-        plain p set = rw (f, s, ← also-none set)
+        plain p set = rw (f .now-flagged, s, ← also-none set)
 
-    module _ (room : at + 10 ≤ length file) (long : length w₀ ≡ most-registers) (few : registers ≤ most-registers) (len : fieldOf file at ≡ 10)
-        (s : SoundGate file at registers w) (to : ℕ) (is-to : to ≡ firstOf file at) where
-      gate : (i : Instruction) → lengthOf i ≡ 10 →
-          uses i ≡ record { reads = secondOf file at ∷ thirdOf file at ∷ []; writes = firstOf file at ∷ []; takes = []; sets = [] } →
-          namedAt file at ≡ gives i → Passes file registers n₀ from w₀ m (at + 10) (set w to true)
-      gate i ten u named =
-          let range : (p : Program) → p .registers ≡ registers → inRange p i ≡ true =
-          λ p r. range-holds p i (rw (u, r) ((s .into, tt), (s .left, (s .right, tt)), tt, tt)) in
-          let read : every (flagged w) (uses i .reads) ≡ true = rw (u, s .left-written, s .right-written) in
-          let into : to < length w = omega (arith, s .into, g .long) in
-          let e : gives i ≡ decodeAt file at = decodes file at i (omega arith) (len ∙ sym ten) named in
-          rw ten at
-          (passes-suc i (set w to true) (λ p r. sym (admit-gives file at p (flagged w) i e (range p r) read)) (rw u)
-          (rw (u, ← is-to) (flag-set w to into)) (length-set w to true) (omega arith))
+-- one gate more: length and kind are tried as one number
+module _ (file : List ℕ) (registers count from kind : ℕ) (w₀ : List Bool) (c : GateRun file from kind registers w₀) (done at : ℕ)
+    (w : List Bool) (g : Passes file registers count from w₀ (count - done) at w) (l : done < count) (room : at + 10 ≤ length file)
+    (s : SoundGate file at registers w) (to : ℕ) (is-to : to ≡ firstOf file at) where
+  gate : fieldOf file at ≡ 10 → (i : Instruction) → lengthOf i ≡ 10 →
+      uses i ≡ record { reads = secondOf file at ∷ thirdOf file at ∷ []; writes = firstOf file at ∷ []; takes = []; sets = [] } →
+      namedAt file at ≡ gives i → Passes file registers count from w₀ (count - (done + 1)) (at + 10) (set w to true)
+  gate len i ten u named =
+      let range : (p : Program) → p .registers ≡ registers → inRange p i ≡ true =
+      λ p r. range-holds p i (rw (u, r) ((s .into, tt), (s .left, (s .right, tt)), tt, tt)) in
+      let read : every (flagged w) (uses i .reads) ≡ true = rw (u, s .left-written, s .right-written) in
+      let e : gives i ≡ decodeAt file at = decodes file at i (omega arith) (len ∙ sym ten) named in
+      let into : to < length w = omega (arith, s .into, g .long, c .long, c .few) in
+      rw ten at
+      (passes-suc file registers count from w₀ (count - done) at w g (count - (done + 1)) (omega arith) i (set w to true)
+      (λ p r. sym (admit-gives file at p (flagged w) i e (range p r) read)) (rw u)
+      (rw (u, ← is-to) (record { now-flagged = flag-set w to into; long = length-set w to true })) (omega arith))
 
-      pub passes-gate : (kind : ℕ) → 5 ≤ kind → kind ≤ 6 → fieldOf file (at + 2) ≡ kind →
-          Passes file registers n₀ from w₀ m (at + 10) (set w to true)
-      passes-gate kind a b k =
-          ⊎-elim
-          (λ (e : 5 ≡ kind). gate (And (firstOf file at) (secondOf file at) (thirdOf file at)) refl refl (rw (k ∙ sym e)))
-          (λ (e : 5 < kind).
-          let six : kind ≡ 6 = omega arith in
-          gate (Or (firstOf file at) (secondOf file at) (thirdOf file at)) refl refl (rw (k ∙ six)))
-          (eq-or-lt-of-le a)
+  pub passes-turn : (head : ℕ) → (head ≡ fieldOf file at + 65536 * fieldOf file (at + 2)) × (fieldOf file at < 65536) →
+      head ≡ 10 + 65536 * kind → Passes file registers count from w₀ (count - (done + 1)) (at + 10) (set w to true)
+  passes-turn head h q =
+      let len : fieldOf file at ≡ 10 = omega (arith, h .0, h .1) in
+      let k : fieldOf file (at + 2) ≡ kind = omega (arith, h .0, h .1) in
+      ⊎-elim
+      (λ (e : 5 ≡ kind). gate len (And (firstOf file at) (secondOf file at) (thirdOf file at)) refl refl (rw (k ∙ sym e)))
+      (λ (e : 5 < kind).
+      let six : kind ≡ 6 = omega (arith, c .high) in
+      gate len (Or (firstOf file at) (secondOf file at) (thirdOf file at)) refl refl (rw (k ∙ six)))
+      (eq-or-lt-of-le (c .low))
 
 -- ---- the whole body
 pub record Checking (file : List ℕ) (p : Program) (n at : ℕ) (w s : List Bool) : Type 0 where
@@ -322,13 +353,24 @@ module _ (file : List ℕ) (p : Program) where
             wide = b .long ∙ g .wide;
           }
 
-      pub checking-admit : 0 < n → (len : ℕ) → len ≡ lengthOf i → (w′ s′ : List Bool) → Flags (uses i .writes) w w′ →
-          Flags (uses i .sets) s s′ → Checking file p (n - 1) (at + len) w′ s′
-      checking-admit l len e w′ s′ a b = rw e (checking-suc (n - 1) (omega arith) w′ s′ a b)
+      -- the turn of a loop: this instruction, its marks, and the gates behind it
+      module _ (l : 0 < n) (len : ℕ) (is-len : len ≡ lengthOf i) (w′ s′ : List Bool) (a : Flags (uses i .writes) w w′)
+          (b : Flags (uses i .sets) s s′) where
+        behind : Checking file p (n - 1) (at + len) w′ s′
+        behind = rw is-len (checking-suc (n - 1) (omega arith) w′ s′ a b)
 
-    pub checking-passes : (n′ at′ : ℕ) (w′ : List Bool) → Passes file (p .registers) n at w n′ at′ w′ → Checking file p n′ at′ w′ s
-    checking-passes n′ at′ w′ a =
-        record { same = a .same p refl (flagged s) ∙ g .same; inside = a .inside; long = a .long ∙ g .long; wide = g .wide }
+        pub turn-ready : within p ≡ true → (p .registers ≤ most-registers) × (length w′ ≡ most-registers) × (at + len ≤ length file)
+        turn-ready v = (within-means p v .few-registers, behind .long, behind .inside)
+
+        pub turn-done : (n′ at′ : ℕ) (w″ : List Bool) → Passes file (p .registers) (n - 1) (at + len) w′ n′ at′ w″ →
+            Checking file p n′ at′ w″ s′
+        turn-done n′ at′ w″ q =
+            record {
+              same = q .same p refl (flagged s′) ∙ behind .same;
+              inside = q .inside;
+              long = q .long ∙ behind .long;
+              wide = behind .wide;
+            }
 
     pub checking-refused : 0 < n → (k : ℕ) → refused k ≡ instructionOf p (flagged w) (drop at file) →
         refused k ≡ restOf file p nothing nothing (p .count) header-length

@@ -143,8 +143,8 @@ code-follows (suc n) p W written set bytes is w e =
     let c = code-says n p written set bytes is e in
     let u = uses (c .first) in
     let f =
-    code-follows n p (λ r. OneOf (u .writes) r ⊎ W r) (also written (u .writes)) (also set (u .sets)) (drop (lengthOf (c .first)) bytes) (c .rest)
-    (λ r t. ⊎-map (λ y. y) (w r) (also-says written (u .writes) r t)) (c .behind) in
+    code-follows n p (λ r. OneOf (u .writes) r ⊎ W r) (also written (u .writes)) (also set (u .sets)) (drop (lengthOf (c .first)) bytes)
+    (c .rest) (λ r t. ⊎-map (λ y. y) (w r) (also-says written (u .writes) r t)) (c .behind) in
     rw (c .split) (record {
       counted = ap suc (f .counted);
       in-range = (range-means p (c .first) (c .in-range), f .in-range);

@@ -1,10 +1,16 @@
 -- `checker::body` meets its contract: what is left from here is answered as the whole is. Assumes nothing.
 use borrow.Author.Needs.{needs}
 use native.Mathlib.Omega.{arith}
-use mathlib.Core.Path.{sym, refl, _∙_}
+use Prim.Native.Nat.{_<_}
+use mathlib.Core.Path.{_≡_, sym, refl, _∙_}
+use lib.ListN.{drop}
+use Rattle.laws.specs.Outcome.{gives}
+use Rattle.programs.specs.Limits.{most-registers, most-inputs, most-outputs}
 use Rattle.programs.specs.Reading.{within-means}
-use Rattle.checker.specs.Checking.{Checking, checking-none, checking-admit, checking-passes, checking-refused}
-use Rattle.checker.specs.Checking.{checking-left, checking-unset, checking-done, admit-room, admit-limits}
+use Rattle.checker.specs.Checks.{instructionOf}
+use Rattle.checker.specs.Standing.{InRange}
+use Rattle.checker.specs.Checking.{flagged, Checking, checking-none, checking-refused, checking-left, checking-unset, checking-done}
+use Rattle.checker.specs.Checking.{turn-ready, turn-done, admit-room, admit-limits}
 use Rattle.checker.proofs.checking.body.Statement.{statement}
 use Rattle.checker.proofs.checking.body.Tie as tie
 
@@ -14,21 +20,34 @@ Inv-loop file p seen₀ at₀ more₀ seen at more = Checking file p more at (se
 abbrev μ-loop : tie.MeasureT-loop
 μ-loop file p seen₀ at₀ more₀ seen at more = more
 
-fresh-requires : tie.Need-fresh-requires Inv-loop μ-loop
-fresh-requires c κs = search needs
+abbrev start : tie.At-loop Inv-loop μ-loop → tie.Start Inv-loop μ-loop
+start c = c .before .before .before .before
 
-cast-more : tie.Need-cast-more Inv-loop μ-loop
-cast-more c = search needs
+-- the loop's head, from where an instruction is admitted, and that place from where it is marked
+abbrev head : tie.After-i Inv-loop μ-loop → tie.At-loop Inv-loop μ-loop
+head c = c .before .before .before .before .before .before
+
+abbrev picked : tie.After-length Inv-loop μ-loop → tie.After-i Inv-loop μ-loop
+picked c = c .before .before .before .before .before .before
+
+admitted : (c : tie.After-i Inv-loop μ-loop) →
+    let top = start (head c) .args in
+    let turn = head c .loop in
+    gives (c .i .given .0 .0) ≡ instructionOf (top .p) (flagged (turn .seen .written)) (drop (turn .at) (top .file .now))
+admitted c = rw (c .i .given .1) at (c .before .before .admit .ensures)
+
+some-left : (c : tie.After-i Inv-loop μ-loop) → 0 < head c .loop .more
+some-left c = c .before .before .before .before .before .loop-test .taken
+
+limits : (c : tie.After-i Inv-loop μ-loop) → InRange most-registers most-inputs most-outputs (c .i .given .0 .0)
+limits c = admit-limits _ _ _ _ (admitted c) (start (head c) .pre .0)
 
 loop-holds : tie.Need-loop-holds Inv-loop μ-loop
 loop-holds c =
     checking-none _ _ _ _ _ refl (c .before .before .before .pre .1) (c .before .fresh .ensures .0) (c .before .fresh .ensures .1)
 
 admit-requires : tie.Need-admit-requires Inv-loop μ-loop
-admit-requires c κs = c .before .before .before .before .before .before .before .pre .0
-
-enum-known-why : tie.Need-enum-known-why Inv-loop μ-loop
-enum-known-why c = search needs
+admit-requires c κs = start (c .before .before .before) .pre .0
 
 returns : tie.Need-returns Inv-loop μ-loop
 returns c =
@@ -36,89 +55,47 @@ returns c =
     checking-refused _ _ _ _ _ _ (turn .before .loop .inv) (turn .loop-test .taken) _
     (rw (c .before .why .given .1) at (c .before .before .before .admit .ensures))
 
-enum-known-i : tie.Need-enum-known-i Inv-loop μ-loop
-enum-known-i c = search needs
-
 mark-register-requires : tie.Need-mark-register-requires Inv-loop μ-loop
 mark-register-requires c κs =
     let i = c .before .before in
-    let loop = i .before .before .before .before .before .before in
-    let start = loop .before .before .before .before in
-    (admit-limits _ _ _ _ (rw (i .i .given .1) at (i .before .before .admit .ensures)) (start .pre .0), loop .loop .inv .long)
+    (limits i .0, head i .loop .inv .long)
 
 mark-output-requires : tie.Need-mark-output-requires Inv-loop μ-loop
 mark-output-requires c κs =
     let i = c .before .before .before .before in
-    let loop = i .before .before .before .before .before .before in
-    let start = loop .before .before .before .before in
-    (admit-limits _ _ _ _ (rw (i .i .given .1) at (i .before .before .admit .ensures)) (start .pre .0), loop .loop .inv .wide)
-
-length-requires : tie.Need-length-requires Inv-loop μ-loop
-length-requires c κs = search needs
+    (limits i .3, head i .loop .inv .wide)
 
 add-at : tie.Need-add-at Inv-loop μ-loop
 add-at c =
-    let i = c .before .before .before .before .before .before in
-    let loop = i .before .before .before .before .before .before in
-    let start = loop .before .before .before .before in
-    let h = admit-room (start .args .file .now) (loop .loop .at) _ _ _ (rw (i .i .given .1) at (i .before .before .admit .ensures)) in
+    let i = picked c in
+    let h = admit-room (start (head i) .args .file .now) (head i .loop .at) _ _ _ (admitted i) in
     omega (arith, c .length .ensures)
 
-sub-gates : tie.Need-sub-gates Inv-loop μ-loop
-sub-gates c = search needs
-
-gates-requires : tie.Need-gates-requires Inv-loop μ-loop
-gates-requires c κs =
-    let i = c .before .before .before .before .before .before .before in
-    let loop = i .before .before .before .before .before .before in
-    let start = loop .before .before .before .before in
-    let length = c .before in
-    let one =
-    checking-admit _ _ _ _ _ _ (loop .loop .inv) _ (rw (i .i .given .1) at (i .before .before .admit .ensures))
-    (i .before .before .before .before .before .loop-test .taken) _ (length .length .ensures) _ _
-    (length .before .before .before .mark-register .ensures) (length .before .mark-output .ensures) in
-    (within-means (start .args .p) (start .pre .0) .few-registers, one .long, one .inside, search needs, search needs)
-
-gates-requires-2 : tie.Need-gates-requires-2 Inv-loop μ-loop
-gates-requires-2 c κs =
-    let i = c .before .before .before .before .before .before .before .before .before in
-    let loop = i .before .before .before .before .before .before in
-    let start = loop .before .before .before .before in
-    let length = c .before .before .before in
-    let one =
-    checking-admit _ _ _ _ _ _ (loop .loop .inv) _ (rw (i .i .given .1) at (i .before .before .admit .ensures))
-    (i .before .before .before .before .before .loop-test .taken) _ (length .length .ensures) _ _
-    (length .before .before .before .mark-register .ensures) (length .before .mark-output .ensures) in
-    let more = checking-passes _ _ _ _ _ _ one _ _ _ (c .before .gates .ensures) in
-    (within-means (start .args .p) (start .pre .0) .few-registers, more .long, more .inside, search needs, search needs)
+gate-runs-requires : tie.Need-gate-runs-requires Inv-loop μ-loop
+gate-runs-requires c κs =
+    let done = c .before in
+    let i = picked done in
+    turn-ready _ _ _ _ _ _ (head i .loop .inv) _ (admitted i) (some-left i) _ (done .length .ensures) _ _
+    (done .before .before .before .mark-register .ensures) (done .before .mark-output .ensures) (start (head i) .pre .0)
 
 loop-less : tie.Need-loop-less Inv-loop μ-loop
 loop-less c =
-    let i = c .before .before .before .before .before .before .before .before .before .before in
-    let l = i .before .before .before .before .before .loop-test .taken in
-    let a = c .before .before .gates .ensures .less in
-    let o = c .gates2 .ensures .less in
-    omega arith
+    let l = some-left (picked (c .before .before)) in
+    omega (arith, c .gate-runs .ensures .less)
 
 loop-again : tie.Need-loop-again Inv-loop μ-loop
 loop-again c =
-    let i = c .before .before .before .before .before .before .before .before .before .before in
-    let loop = i .before .before .before .before .before .before in
-    let start = loop .before .before .before .before in
-    let length = c .before .before .before .before in
-    let one =
-    checking-admit _ _ _ _ _ _ (loop .loop .inv) _ (rw (i .i .given .1) at (i .before .before .admit .ensures))
-    (i .before .before .before .before .before .loop-test .taken) _ (length .length .ensures) _ _
-    (length .before .before .before .mark-register .ensures) (length .before .mark-output .ensures) in
-    let more = checking-passes _ _ _ _ _ _ one _ _ _ (c .before .before .gates .ensures) in
-    checking-passes _ _ _ _ _ _ more _ _ _ (c .gates2 .ensures)
+    let done = c .before .before in
+    let i = picked done in
+    turn-done _ _ _ _ _ _ (head i .loop .inv) _ (admitted i) (some-left i) _ (done .length .ensures) _ _
+    (done .before .before .before .mark-register .ensures) (done .before .mark-output .ensures) _ _ _ (c .gate-runs .ensures)
 
 returns-2 : tie.Need-returns-2 Inv-loop μ-loop
 returns-2 c = checking-left _ _ _ _ _ _ (c .before .before .loop .inv) (c .before .loop-test .left) (c .if1 .taken)
 
 any-unset-requires : tie.Need-any-unset-requires Inv-loop μ-loop
 any-unset-requires c κs =
-    let start = c .before .before .before .before .before .before .before .before in
+    let start = start (c .before .before .before .before) in
     within-means (start .args .p) (start .pre .0) .few-outputs
 
 returns-3 : tie.Need-returns-3 Inv-loop μ-loop
@@ -137,25 +114,10 @@ pub body-spec : {M : Type 1} → statement M
 body-spec =
     tie.close
     (tie.spec
-    Inv-loop
-    μ-loop
-    fresh-requires
-    cast-more
-    loop-holds
-    admit-requires
-    enum-known-why
-    returns
-    enum-known-i
-    mark-register-requires
-    mark-output-requires
-    length-requires
-    add-at
-    sub-gates
-    gates-requires
-    gates-requires-2
-    loop-less
-    loop-again
-    returns-2
-    any-unset-requires
-    returns-3
-    returns-4)
+    Inv-loop μ-loop
+    (λ c κs. search needs) (λ c. search needs) loop-holds
+    admit-requires (λ c. search needs) returns (λ c. search needs)
+    mark-register-requires mark-output-requires
+    (λ c κs. search needs) add-at (λ c. search needs)
+    gate-runs-requires loop-less loop-again
+    returns-2 any-unset-requires returns-3 returns-4)

@@ -1,6 +1,6 @@
 // Fields in bytes that hold them, for loops that have tried the room already (01, "Files").
 ghost use mathlib.Core.Path.{_≡_};
-ghost use Prim.Native.Nat.{_+_, _*_, _≤_, _<_, min};
+ghost use Prim.Native.Nat.{_+_, _*_, _≤_, _<_};
 ghost use lib.ListN.{length};
 ghost use Rattle.files.specs.Fields.{fieldOf};
 
@@ -15,13 +15,10 @@ pub(crate) fn field_at(file: &[u8], at: usize) -> usize
 // The 32-bit number at `at`, in bytes that hold it.
 pub(crate) fn wide_at(file: &[u8], at: usize) -> usize
     requires { ⌜ at + 4 ≤ length (now file) ⌝ }
-    ensures { λ r. ⌜ (r ≡ fieldOf (now (file .entry)) at + 65536 * fieldOf (now (file .entry)) (at + 2)) × (fieldOf (now (file .entry)) at < 65536) ⌝ }
+    ensures { λ r. ⌜ (
+        let bytes = now (file .entry) in
+        (r ≡ fieldOf bytes at + 65536 * fieldOf bytes (at + 2)) × (fieldOf bytes at < 65536)
+        ) ⌝ }
 {
     field_at(file, at) + 65536 * field_at(file, at + 2)
-}
-
-pub(crate) fn lesser(a: usize, b: usize) -> usize
-    ensures { λ r. ⌜ r ≡ min a b ⌝ }
-{
-    if a < b { a } else { b }
 }
