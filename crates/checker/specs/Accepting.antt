@@ -24,7 +24,7 @@ use Rattle.programs.specs.declared.description.Program.{Program}
 use Rattle.programs.specs.declared.description.Instruction.{Instruction}
 use Rattle.checker.specs.Checks.{also, inRange, instructionOf, codeOf, nothing, checkOf}
 use Rattle.checker.specs.Standing.{InRange}
-use Rattle.checker.specs.Checking.{range-holds}
+use Rattle.checker.specs.Operands.{range-holds}
 
 -- ---- the judgment
 -- each operand is below its count

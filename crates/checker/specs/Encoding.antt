@@ -22,7 +22,8 @@ use Rattle.programs.specs.Inverse.{header-reads, instruction-back, header-back}
 use Rattle.programs.specs.declared.description.Program.{Program}
 use Rattle.programs.specs.declared.description.Instruction.{Instruction}
 use Rattle.checker.specs.Checks.{Code, also, inRange, instructionOf, codeOf, nothing, checkOf}
-use Rattle.checker.specs.Checking.{range-means, instruction-means, check-says}
+use Rattle.checker.specs.Operands.{range-means, instruction-means}
+use Rattle.checker.specs.Checking.{check-says}
 use Rattle.checker.specs.Accepting.{Fits, Ready, Sets, none, Sound, also-says, accepted}
 
 -- ---- what acceptance means in plain words

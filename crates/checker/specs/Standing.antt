@@ -62,6 +62,13 @@ thirdOf file at = fieldOf file (at + 8)
 abbrev pub namedAt : List ℕ → ℕ → Outcome Instruction
 namedAt file at = ofKind (fieldOf file (at + 2)) (firstOf file at) (secondOf file at) (thirdOf file at)
 
+-- an AND or an OR is named there: an instruction of three operands
+pub record GateNamed (file : List ℕ) (at : ℕ) : Type 0 where
+  pub i : Instruction
+  pub named : namedAt file at ≡ gives i
+  pub long : lengthOf i ≡ 10
+  pub used : uses i ≡ record { reads = secondOf file at ∷ thirdOf file at ∷ []; writes = firstOf file at ∷ []; takes = []; sets = [] }
+
 -- it stands at a byte of a file
 pub record Stands (file : List ℕ) (at : ℕ) (i : Instruction) : Type 0 where
   pub reads : decodeOf (drop at file) ≡ gives i
@@ -81,6 +88,21 @@ pub record Gate (file : List ℕ) (at nr : ℕ) : Type 0 where
   pub into : firstOf file at < nr
   pub left : secondOf file at < nr
   pub right : thirdOf file at < nr
+
+pub gate-named : (file : List ℕ) (at kind : ℕ) → 5 ≤ kind → kind ≤ 6 → fieldOf file (at + 2) ≡ kind → GateNamed file at
+gate-named file at kind low high k =
+    ⊎-elim
+    (λ (e : 5 ≡ kind).
+    record { i = And (firstOf file at) (secondOf file at) (thirdOf file at); named = rw (k ∙ sym e); long = refl; used = refl })
+    (λ (e : 5 < kind).
+    let six : kind ≡ 6 = omega arith in
+    record { i = Or (firstOf file at) (secondOf file at) (thirdOf file at); named = rw (k ∙ six); long = refl; used = refl })
+    (eq-or-lt-of-le low)
+
+named-gate : (file : List ℕ) (at nr ni nq : ℕ) (g : GateNamed file at) → Stands file at (g .i) × InRange nr ni nq (g .i) → Gate file at nr
+named-gate file at nr ni nq g s =
+    let r = rw (g .used) at (s .1) in
+    record { room = omega (arith, s .0 .room, g .long); into = r .0 .0; left = r .1 .0; right = r .1 .1 .0 }
 
 pub reads-stands : (file : List ℕ) (at : ℕ) (i : Instruction) → decodeOf (drop at file) ≡ gives i → Stands file at i
 reads-stands file at i e =
@@ -191,13 +213,15 @@ module _ (file : List ℕ) (at nr ni nq : ℕ) (r : ReadyAt file at nr ni nq) wh
 
     pub is-and : k ≡ 5 → Stands file at (And (firstOf file at) (secondOf file at) (thirdOf file at)) × Gate file at nr
     is-and e =
-        let s = by-kind (And (firstOf file at) (secondOf file at) (thirdOf file at)) (rw (sym is-k ∙ e)) in
-        (s .0, record { room = s .0 .room; into = s .1 .0 .0; left = s .1 .1 .0; right = s .1 .1 .1 .0 })
+        let n : namedAt file at ≡ gives (And (firstOf file at) (secondOf file at) (thirdOf file at)) = rw (sym is-k ∙ e) in
+        let s = by-kind (And (firstOf file at) (secondOf file at) (thirdOf file at)) n in
+        (s .0, named-gate file at nr ni nq (record { i = _; named = n; long = refl; used = refl }) s)
 
     pub is-or : k ≡ 6 → Stands file at (Or (firstOf file at) (secondOf file at) (thirdOf file at)) × Gate file at nr
     is-or e =
-        let s = by-kind (Or (firstOf file at) (secondOf file at) (thirdOf file at)) (rw (sym is-k ∙ e)) in
-        (s .0, record { room = s .0 .room; into = s .1 .0 .0; left = s .1 .1 .0; right = s .1 .1 .1 .0 })
+        let n : namedAt file at ≡ gives (Or (firstOf file at) (secondOf file at) (thirdOf file at)) = rw (sym is-k ∙ e) in
+        let s = by-kind (Or (firstOf file at) (secondOf file at) (thirdOf file at)) n in
+        (s .0, named-gate file at nr ni nq (record { i = _; named = n; long = refl; used = refl }) s)
 
     pub is-output : (k ≡ 1 → ⊥) → (k ≡ 2 → ⊥) → (k ≡ 3 → ⊥) → (k ≡ 4 → ⊥) → (k ≡ 5 → ⊥) → (k ≡ 6 → ⊥) →
         Stands file at (Output (firstOf file at) (secondOf file at)) × ((firstOf file at < nq) × (secondOf file at < nr))
@@ -221,17 +245,12 @@ module _ (nr ni nq : ℕ) (file : List ℕ) (kind : ℕ) (low : 5 ≤ kind) (hig
   -- what a gate's kind says of its place and of what follows
   pub gate-first : (n at : ℕ) → Formed (suc n) nr ni nq (drop at file) → fieldOf file (at + 2) ≡ kind →
       Gate file at nr × Formed n nr ni nq (drop (at + 10) file)
-  gate-first n at f k =
-      let r = formed-ready n nr ni nq file at f in
-      ⊎-elim
-      (λ (e : 5 ≡ kind).
-      let s = is-and file at nr ni nq r (fieldOf file (at + 2)) refl (k ∙ sym e) in
-      (s .1, formed-next n nr ni nq file at (And (firstOf file at) (secondOf file at) (thirdOf file at)) (s .0 .reads) f))
-      (λ (e : 5 < kind).
-      let six : kind ≡ 6 = omega arith in
-      let s = is-or file at nr ni nq r (fieldOf file (at + 2)) refl (k ∙ six) in
-      (s .1, formed-next n nr ni nq file at (Or (firstOf file at) (secondOf file at) (thirdOf file at)) (s .0 .reads) f))
-      (eq-or-lt-of-le low)
+  gate-first n at f k = by (gate-named file at kind low high k)
+    where
+      by : GateNamed file at → Gate file at nr × Formed n nr ni nq (drop (at + 10) file)
+      by g =
+          let s = by-kind file at nr ni nq (formed-ready n nr ni nq file at f) (g .i) (g .named) in
+          (named-gate file at nr ni nq g s, rw (g .long) at (formed-next n nr ni nq file at (g .i) (s .0 .reads) f))
 
   -- the same in the words of code that has passed one, two and three of them
   gate-at : (n at place next : ℕ) → place ≡ at + 2 → next ≡ at + 10 → Formed (suc n) nr ni nq (drop at file) → fieldOf file place ≡ kind →

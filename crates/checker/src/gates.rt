@@ -4,7 +4,7 @@ ghost use mathlib.Core.Bool.{true};
 ghost use Prim.Native.Nat.{_+_, _≤_, _<_, min};
 ghost use lib.ListN.{length};
 ghost use Rattle.programs.specs.Limits.{most-registers};
-ghost use Rattle.checker.specs.Checking.{GateRun, Passes, SoundGate};
+ghost use Rattle.checker.specs.GateRuns.{GateRun, Passes, SoundGate};
 use crate::bytes::field_at;
 use crate::bytes::wide_at;
 use programs::Instruction;

@@ -8,7 +8,7 @@ ghost use Rattle.laws.specs.Every.{every};
 ghost use Rattle.programs.specs.Limits.{most-outputs, most-registers, within};
 ghost use Rattle.programs.specs.Instructions.{decoded, uses};
 ghost use Rattle.checker.specs.Checks.{inRange, instructionOf};
-ghost use Rattle.checker.specs.Checking.{flagged, Flags};
+ghost use Rattle.checker.specs.Operands.{flagged, Flags};
 use files::Refusal;
 use programs::Decoded;
 use programs::Instruction;

@@ -21,7 +21,8 @@ use Rattle.checker.specs.Checks.{Code, also, inRange, instructionOf, codeOf, no
 use Rattle.machine.specs.Runs.{Ended, steps, runOf, roomFor, startOn, resumeOn, startOf, resumeOf}
 use Rattle.checker.specs.Standing.{readOf, Formed}
 use Rattle.machine.specs.Turns.{state, Ends}
-use Rattle.checker.specs.Checking.{range-means, range-wider, instruction-means, check-says}
+use Rattle.checker.specs.Operands.{range-means, range-wider, instruction-means}
+use Rattle.checker.specs.Checking.{check-says}
 use Rattle.machine.specs.declared.runs.Run.{Run}
 
 -- ---- an accepted program stands in its bytes

@@ -4,7 +4,8 @@ use Prim.Native.Nat.{_-_, _≤_}
 use mathlib.Core.Path.{_≡_}
 use mathlib.Core.Bool.{not, false}
 use Rattle.laws.specs.Sums.{any, any-none, any-done}
-use Rattle.checker.specs.Checking.{flagged, missing-found, missing-more}
+use Rattle.checker.specs.Operands.{flagged}
+use Rattle.checker.specs.Checking.{missing-found, missing-more}
 use Rattle.checker.proofs.checking.any_unset.Statement.{statement}
 use Rattle.checker.proofs.checking.any_unset.Tie as tie
 

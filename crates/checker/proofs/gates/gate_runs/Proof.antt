@@ -1,6 +1,6 @@
 -- `checker::gate_runs` meets its contract: one run after the other. Assumes nothing.
 use borrow.Author.Needs.{needs}
-use Rattle.checker.specs.Checking.{passes-then}
+use Rattle.checker.specs.GateRuns.{passes-then}
 use Rattle.checker.proofs.gates.gate_runs.Statement.{statement}
 use Rattle.checker.proofs.gates.gate_runs.Tie as tie
 

@@ -5,7 +5,7 @@ use Prim.Native.Nat.{_+_, _-_, _*_, _≤_, _<_}
 use mathlib.Core.Path.{_≡_}
 use borrow.Author.Tests.{eqb-true}
 use lib.ListN.{length}
-use Rattle.checker.specs.Checking.{Passes, passes-none, passes-turn}
+use Rattle.checker.specs.GateRuns.{Passes, passes-none, passes-turn}
 use Rattle.checker.proofs.gates.gates.Statement.{statement}
 use Rattle.checker.proofs.gates.gates.Tie as tie
 

@@ -2,7 +2,7 @@
 use borrow.Author.Needs.{needs}
 use mathlib.Core.Bool.{true≢false}
 use mathlib.Core.Path.{sym}
-use Rattle.checker.specs.Checking.{sound}
+use Rattle.checker.specs.GateRuns.{sound}
 use Rattle.checker.proofs.gates.sound_gate.Statement.{statement}
 use Rattle.checker.proofs.gates.sound_gate.Tie as tie
 

@@ -6,7 +6,7 @@ use mathlib.Core.Bool.{true}
 use Rattle.laws.specs.Outcome.{gives}
 use Rattle.programs.specs.Instructions.{decodeAt}
 use Rattle.checker.specs.Checks.{inRange}
-use Rattle.checker.specs.Checking.{range-limits, admit-refused, admit-operand, admit-unwritten, admit-gives}
+use Rattle.checker.specs.Operands.{range-limits, admit-refused, admit-operand, admit-unwritten, admit-gives}
 use Rattle.checker.proofs.operands.admit.Statement.{statement}
 use Rattle.checker.proofs.operands.admit.Tie as tie
 

@@ -1,6 +1,6 @@
 -- `checker::in_range` meets its contract: the test is the definition's, by the kind. Assumes nothing.
 use borrow.Author.Needs.{needs}
-use Rattle.checker.specs.Checking.{range-tested}
+use Rattle.checker.specs.Operands.{range-tested}
 use Rattle.checker.proofs.operands.in_range.Statement.{statement}
 use Rattle.checker.proofs.operands.in_range.Tie as tie
 

@@ -5,7 +5,7 @@ use mathlib.Core.Path.{ap}
 use mathlib.Core.List.{List}
 use Rattle.programs.specs.Instructions.{uses}
 use Rattle.programs.specs.declared.description.Instruction.{Instruction}
-use Rattle.checker.specs.Checking.{unmarked, marked}
+use Rattle.checker.specs.Operands.{unmarked, marked}
 use Rattle.checker.proofs.operands.mark_output.Statement.{statement}
 use Rattle.checker.proofs.operands.mark_output.Tie as tie
 

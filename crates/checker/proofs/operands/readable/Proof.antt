@@ -1,7 +1,7 @@
 -- `checker::readable` meets its contract: by the kind. Assumes nothing.
 use borrow.Author.Needs.{needs}
 use mathlib.Core.Bool.{and-true}
-use Rattle.checker.specs.Checking.{flagged}
+use Rattle.checker.specs.Operands.{flagged}
 use Rattle.checker.proofs.operands.readable.Statement.{statement}
 use Rattle.checker.proofs.operands.readable.Tie as tie
 
