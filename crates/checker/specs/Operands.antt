@@ -109,10 +109,25 @@ unmarked xs w e = rw e (record { now-flagged = also-none (flagged w); long = ref
 
 pub marked : (xs : List ℕ) (n x : ℕ) (w : List Bool) → xs ≡ x ∷ [] → Each (λ r. r < n) xs × (length w ≡ n) → Flags xs w (set w x true)
 marked xs n x w e r =
-    let below = rw e at (r .0) in
-    rw e (record { now-flagged = flag-set w x (rw (r .1) (below .0)); long = length-set w x true })
+    let fits = rw e at (r .0) in
+    rw e (record { now-flagged = flag-set w x (rw (r .1) (fits .0)); long = length-set w x true })
 
 -- ---- one instruction
+-- what an instruction that is admitted says
+pub instruction-means : (p : Program) (written : ℕ → Bool) (bytes : List ℕ) (i : Instruction) → instructionOf p written bytes ≡ gives i →
+    (decodeOf bytes ≡ gives i) × (inRange p i ≡ true) × (every written (uses i .reads) ≡ true)
+unfolding instructionOf
+instruction-means p written bytes i e =
+    let c1 = bound (decodeOf bytes) _ i e in
+    let c2 = passed 8 (not (inRange p (c1 .0))) _ i (c1 .2) in
+    let c3 = passed 9 (not (every written (uses (c1 .0) .reads))) (gives (c1 .0)) i (c2 .1) in
+    let same : c1 .0 ≡ i = gives-inj (c3 .1) in (
+      c1 .1 ∙ ap gives same,
+      rw same at (not-false (inRange p (c1 .0)) (c2 .0)),
+      rw same at (not-false (every written (uses (c1 .0) .reads)) (c3 .0)),
+    )
+
+-- the ways through its checks
 module _ (file : List ℕ) (at : ℕ) (p : Program) (written : ℕ → Bool) where
   pub admit-refused : (k : ℕ) → refused k ≡ decodeAt file at → refused k ≡ instructionOf p written (drop at file)
   unfolding instructionOf decodeAt
@@ -130,20 +145,6 @@ module _ (file : List ℕ) (at : ℕ) (p : Program) (written : ℕ → Bool) whe
     pub admit-gives : inRange p i ≡ true → every written (uses i .reads) ≡ true → gives i ≡ instructionOf p written (drop at file)
     unfolding instructionOf decodeAt
     admit-gives r w = rw (sym e, r, w)
-
--- what an instruction that is admitted says
-pub instruction-means : (p : Program) (written : ℕ → Bool) (bytes : List ℕ) (i : Instruction) → instructionOf p written bytes ≡ gives i →
-    (decodeOf bytes ≡ gives i) × (inRange p i ≡ true) × (every written (uses i .reads) ≡ true)
-unfolding instructionOf
-instruction-means p written bytes i e =
-    let c1 = bound (decodeOf bytes) _ i e in
-    let c2 = passed 8 (not (inRange p (c1 .0))) _ i (c1 .2) in
-    let c3 = passed 9 (not (every written (uses (c1 .0) .reads))) (gives (c1 .0)) i (c2 .1) in
-    let same : c1 .0 ≡ i = gives-inj (c3 .1) in (
-      c1 .1 ∙ ap gives same,
-      rw same at (not-false (inRange p (c1 .0)) (c2 .0)),
-      rw same at (not-false (every written (uses (c1 .0) .reads)) (c3 .0)),
-    )
 
 pub admit-limits : (p : Program) (written : ℕ → Bool) (bytes : List ℕ) (i : Instruction) → gives i ≡ instructionOf p written bytes →
     within p ≡ true → InRange most-registers most-inputs most-outputs i
