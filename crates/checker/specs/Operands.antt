@@ -103,6 +103,15 @@ pub also-none : (t : ℕ → Bool) → t ≡ also t []
 unfolding also
 also-none t = fun-ext (λ r. refl)
 
+-- the flags of a list of one, and of two
+pub flagged-one : (w : List Bool) (xs : List ℕ) (a : ℕ) → xs ≡ a ∷ [] → getD w a false ≡ every (flagged w) xs
+unfolding flagged
+flagged-one w xs a e = rw e (sym (and-true (getD w a false)))
+
+pub flagged-two : (w : List Bool) (xs : List ℕ) (a b : ℕ) → xs ≡ a ∷ b ∷ [] → (getD w a false && getD w b false) ≡ every (flagged w) xs
+unfolding flagged
+flagged-two w xs a b e = rw (e, and-true)
+
 -- where the list is of none, or of one below the number of flags
 pub unmarked : (xs : List ℕ) (w : List Bool) → xs ≡ [] → Flags xs w w
 unmarked xs w e = rw e (record { now-flagged = also-none (flagged w); long = refl })
