@@ -15,7 +15,7 @@ use Rattle.laws.specs.Lay.{blocks, upto}
 use Rattle.files.specs.Matrix.{Matrix, Accepted, bit}
 use Rattle.walk.specs.Steps.{Below}
 use Rattle.walk.specs.Walk.{Place, found, left, Drawn, hit, miss, Answer, sample, missed, answerOf, drawn}
-use Rattle.machine.specs.Meaning.{bits, State, exec}
+use Rattle.machine.specs.Meaning.{bitGates, State, exec}
 use Rattle.compiler.specs.Translation.{rowBits, begin, end, liveBefore, column, translation, program}
 use Rattle.compiler.specs.Width.{row-lt}
 use Rattle.compiler.specs.Room.{accepted-roomy}
@@ -123,7 +123,7 @@ module _ (M : Matrix) (a : Accepted M) (inputs : List ℕ) (ok : (c : ℕ) → c
     (long : program M .registers ≤ length (s .registers)) (wide : program M .outputs ≤ length (s .outputs)) where
   -- the outputs after the whole program
   abbrev pub ends : ℕ → ℕ
-  ends o = getD (exec bits inputs (translation M) s .outputs) o 0
+  ends o = getD (exec bitGates inputs (translation M) s .outputs) o 0
 
   abbrev pub draws : Drawn
   draws = drawn M (carried M inputs)

@@ -13,7 +13,7 @@ use Rattle.laws.specs.Each.{Each}
 use Rattle.programs.specs.Instructions.{uses}
 use Rattle.programs.specs.declared.description.Instruction.{Instruction}
 use Rattle.programs.specs.declared.description.Instruction.the-variants.{Ones, Zero, Input, Not, And, Or, Output}
-use Rattle.machine.specs.Meaning.{bits, State, step, exec}
+use Rattle.machine.specs.Meaning.{bitGates, State, step, exec}
 
 -- what a register and an output hold
 abbrev pub reg : State ℕ → ℕ → ℕ
@@ -31,15 +31,15 @@ Passes o i = Each (λ w. o ≢ w) (uses i .sets)
 
 module _ (inputs : List ℕ) where
   abbrev pub run : List Instruction → State ℕ → State ℕ
-  run is s = exec bits inputs is s
+  run is s = exec bitGates inputs is s
 
   pub run-append : (is js : List Instruction) (s : State ℕ) → run (is ++ js) s ≡ run js (run is s)
   unfolding exec
   run-append [] js s = refl
-  run-append (i ∷ is) js s = run-append is js (step bits inputs i s)
+  run-append (i ∷ is) js s = run-append is js (step bitGates inputs i s)
 
   -- ---- as many registers and outputs as before
-  step-long : (i : Instruction) (s : State ℕ) → length (step bits inputs i s .registers) ≡ length (s .registers)
+  step-long : (i : Instruction) (s : State ℕ) → length (step bitGates inputs i s .registers) ≡ length (s .registers)
   step-long (Ones to) s = length-set (s .registers) to _
   step-long (Zero to) s = length-set (s .registers) to _
   step-long (Input to n) s = length-set (s .registers) to _
@@ -51,12 +51,12 @@ module _ (inputs : List ℕ) where
   run-long : (is : List Instruction) (s : State ℕ) → length (run is s .registers) ≡ length (s .registers)
   unfolding exec
   run-long [] s = refl
-  run-long (i ∷ is) s = run-long is (step bits inputs i s) ∙ step-long i s
+  run-long (i ∷ is) s = run-long is (step bitGates inputs i s) ∙ step-long i s
 
   pub still-long : (is : List Instruction) (s : State ℕ) (n : ℕ) → n ≤ length (s .registers) → n ≤ length (run is s .registers)
   still-long is s n h = rw (run-long is s) h
 
-  step-wide : (i : Instruction) (s : State ℕ) → length (step bits inputs i s .outputs) ≡ length (s .outputs)
+  step-wide : (i : Instruction) (s : State ℕ) → length (step bitGates inputs i s .outputs) ≡ length (s .outputs)
   step-wide (Ones to) s = refl
   step-wide (Zero to) s = refl
   step-wide (Input to n) s = refl
@@ -68,13 +68,13 @@ module _ (inputs : List ℕ) where
   run-wide : (is : List Instruction) (s : State ℕ) → length (run is s .outputs) ≡ length (s .outputs)
   unfolding exec
   run-wide [] s = refl
-  run-wide (i ∷ is) s = run-wide is (step bits inputs i s) ∙ step-wide i s
+  run-wide (i ∷ is) s = run-wide is (step bitGates inputs i s) ∙ step-wide i s
 
   pub still-wide : (is : List Instruction) (s : State ℕ) (n : ℕ) → n ≤ length (s .outputs) → n ≤ length (run is s .outputs)
   still-wide is s n h = rw (run-wide is s) h
 
   -- ---- what is left alone
-  step-leaves : (r : ℕ) (i : Instruction) (s : State ℕ) → Leaves r i → reg (step bits inputs i s) r ≡ reg s r
+  step-leaves : (r : ℕ) (i : Instruction) (s : State ℕ) → Leaves r i → reg (step bitGates inputs i s) r ≡ reg s r
   step-leaves r (Ones to) s n = getD-set-other (s .registers) to r _ 0 (n .0)
   step-leaves r (Zero to) s n = getD-set-other (s .registers) to r _ 0 (n .0)
   step-leaves r (Input to x) s n = getD-set-other (s .registers) to r _ 0 (n .0)
@@ -86,9 +86,9 @@ module _ (inputs : List ℕ) where
   pub run-leaves : (r : ℕ) (is : List Instruction) (s : State ℕ) → Each (Leaves r) is → reg (run is s) r ≡ reg s r
   unfolding exec
   run-leaves r [] s n = refl
-  run-leaves r (i ∷ is) s n = run-leaves r is (step bits inputs i s) (n .1) ∙ step-leaves r i s (n .0)
+  run-leaves r (i ∷ is) s n = run-leaves r is (step bitGates inputs i s) (n .1) ∙ step-leaves r i s (n .0)
 
-  step-passes : (o : ℕ) (i : Instruction) (s : State ℕ) → Passes o i → out (step bits inputs i s) o ≡ out s o
+  step-passes : (o : ℕ) (i : Instruction) (s : State ℕ) → Passes o i → out (step bitGates inputs i s) o ≡ out s o
   step-passes o (Ones to) s n = refl
   step-passes o (Zero to) s n = refl
   step-passes o (Input to x) s n = refl
@@ -100,7 +100,7 @@ module _ (inputs : List ℕ) where
   pub run-passes : (o : ℕ) (is : List Instruction) (s : State ℕ) → Each (Passes o) is → out (run is s) o ≡ out s o
   unfolding exec
   run-passes o [] s n = refl
-  run-passes o (i ∷ is) s n = run-passes o is (step bits inputs i s) (n .1) ∙ step-passes o i s (n .0)
+  run-passes o (i ∷ is) s n = run-passes o is (step bitGates inputs i s) (n .1) ∙ step-passes o i s (n .0)
 
   -- ---- what an instruction leaves in the register that it writes, where those after it leave that alone
   module _ (to : ℕ) (is : List Instruction) (s : State ℕ) (h : to < length (s .registers)) (n : Each (Leaves to) is) where

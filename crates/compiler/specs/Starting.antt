@@ -13,7 +13,7 @@ use Rattle.laws.specs.Outcome.{gives, gives-inj}
 use Rattle.files.specs.Matrix.{Matrix, Accepted}
 use Rattle.programs.specs.declared.description.Instruction.{Instruction}
 use Rattle.walk.specs.Walk.{answerOf, drawn}
-use Rattle.machine.specs.Meaning.{Gates, bits, State, exec}
+use Rattle.machine.specs.Meaning.{Gates, bitGates, State, exec}
 use Rattle.machine.specs.Runs.{Ended, runOf, startOn}
 use Rattle.compiler.specs.Translation.{rowBits, translation, program, compiled}
 use Rattle.compiler.specs.Compiled.{compiled-accepted}
@@ -60,11 +60,11 @@ module _ {A : Type 0} (G : Gates A) where
 -- what one lane of it gives: bits in the n inputs, and anything in registers and outputs before
 pub start-gives : (M : Matrix) → Accepted M → (inputs registers outputs : List ℕ) (budget : ℕ) → ((c : ℕ) → c < M .columns → getD inputs c 0 ≤ 1) →
     M .columns ≤ length inputs → program M .registers ≤ length registers → program M .outputs ≤ length outputs → program M .count ≤ budget →
-    (e : Ended ℕ) → startOn bits (compiled M) inputs registers outputs budget ≡ gives e →
+    (e : Ended ℕ) → startOn bitGates (compiled M) inputs registers outputs budget ≡ gives e →
     givenBy (rowBits (M .rows)) (λ o. getD (e .state .outputs) o 0) ≡ answerOf (drawn M (carried M inputs))
 start-gives M a inputs registers outputs budget ok i r o enough e q =
-    let same : whole bits (translation M) inputs budget (fresh bits M) ≡ e =
-    gives-inj (sym (start-compiled bits M a inputs registers outputs budget (rw (inputs-are M) i) r o enough) ∙ q) in
+    let same : whole bitGates (translation M) inputs budget (fresh bitGates M) ≡ e =
+    gives-inj (sym (start-compiled bitGates M a inputs registers outputs budget (rw (inputs-are M) i) r o enough) ∙ q) in
     ap (λ (x : Ended ℕ). givenBy (rowBits (M .rows)) (λ o. getD (x .state .outputs) o 0)) (sym same) ∙
-    gives-walk M a inputs ok (fresh bits M) (omega (arith, length-replicate {A = ℕ} (program M .registers) 0))
+    gives-walk M a inputs ok (fresh bitGates M) (omega (arith, length-replicate {A = ℕ} (program M .registers) 0))
     (omega (arith, length-replicate {A = ℕ} (program M .outputs) 0))

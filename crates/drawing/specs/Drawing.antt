@@ -17,12 +17,12 @@ use Rattle.programs.specs.Header.{headerOf}
 use Rattle.programs.specs.Reading.{Within, within-means}
 use Rattle.programs.specs.Inverse.{header-reads}
 use Rattle.programs.specs.declared.description.Program.{Program}
-use Rattle.machine.specs.Meaning.{Gates, words, exec-long}
+use Rattle.machine.specs.Meaning.{Gates, wordGates, exec-long}
 use Rattle.machine.specs.Checks.{Code, checkOf}
 use Rattle.machine.specs.Runs.{Ended, runOf, startOn, startOf}
 use Rattle.machine.specs.Checking.{check-refused, check-says}
-use Rattle.machine.specs.LaneLaw.{start-inputs, start-forgets-enough}
-use Rattle.machine.specs.Resuming.{Room, Enough, cleared, start-is, admitted-gives}
+use Rattle.machine.specs.Unseen.{start-inputs, start-forgets-enough}
+use Rattle.machine.specs.Calls.{Room, Enough, cleared, start-is, admitted-gives}
 use Rattle.machine.specs.declared.runs.Run.{Run}
 use Rattle.lanes.specs.Slicing.{lanes, sliceOf, wordOf}
 use Rattle.lanes.specs.Samples.{samplesOf, signedSamplesOf}
@@ -144,7 +144,7 @@ module _ (program strings : List ℕ) (room : ℕ) where
     unfolding drawnWith
     batch-starts inputs registers outputs r same =
         rw (d .accepted, d .sliced, le-ltb room lanes (d .enough))
-        (rw (start-agrees words program (d .code) (d .accepted) (header .count) (d .inputs) _ _ inputs registers outputs own-room r same)
+        (rw (start-agrees wordGates program (d .code) (d .accepted) (header .count) (d .inputs) _ _ inputs registers outputs own-room r same)
         (bind-is (startOf program inputs registers outputs (header .count)) (λ e. e .state .outputs)))
 
     -- as many outputs as the header says
@@ -155,9 +155,9 @@ module _ (program strings : List ℕ) (room : ℕ) where
           d .accepted,
           d .sliced,
           le-ltb room lanes (d .enough),
-          start-runs words program (d .code) (d .accepted) (header .count) (d .inputs) _ _ own-room,
+          start-runs wordGates program (d .code) (d .accepted) (header .count) (d .inputs) _ _ own-room,
         ) at e in
-        ap length (sym (gives-inj g)) ∙ (exec-long words (d .inputs) _ (cleared words header) .1 ∙ length-replicate {A = ℕ} (header .outputs) 0)
+        ap length (sym (gives-inj g)) ∙ (exec-long wordGates (d .inputs) _ (cleared wordGates header) .1 ∙ length-replicate {A = ℕ} (header .outputs) 0)
 
 -- the header that is read first is that of the accepted program
 header-same : (program : List ℕ) (p : Program) (c : Code) → headerOf program ≡ gives p → checkOf program ≡ gives c → c .program ≡ p

@@ -9,10 +9,10 @@ use Rattle.laws.specs.Outcome.{gives, mapped, _>>=_, gives-inj}
 use Rattle.files.specs.Matrix.{Matrix}
 use Rattle.files.specs.Files.{matrixOf}
 use Rattle.files.specs.RoundTrip.{read-accepted}
-use Rattle.machine.specs.Meaning.{words}
+use Rattle.machine.specs.Meaning.{wordGates}
 use Rattle.machine.specs.Checks.{checkOf}
 use Rattle.machine.specs.Runs.{Ended, startOf}
-use Rattle.machine.specs.Resuming.{started, onward, start-onward, Chain, start-chain, together, total}
+use Rattle.machine.specs.Resuming.{started, onward, start-onward, Chain, start-chain, together, allBudgets}
 use Rattle.walk.specs.Walk.{drawn, answerOf}
 use Rattle.lanes.specs.Slicing.{lanes}
 use Rattle.lanes.specs.Samples.{sampleOf}
@@ -39,27 +39,27 @@ module _ (file : List ℕ) (M : Matrix) (e : matrixOf file ≡ gives M) where
     demand-2 budget j enough jl = lane-draws M (read-accepted file M e) inputs registers outputs budget j jl small i r o enough
 
     -- the same after any stops that are resumed as left: what the caller's buffer holds in the end, where the budgets together are not below the count
-    pub demand-2-stops : (b : ℕ) (bs : List ℕ) (j : ℕ) → b < 2 ^ 32 → program M .count ≤ together b (total bs) → j < lanes →
+    pub demand-2-stops : (b : ℕ) (bs : List ℕ) (j : ℕ) → b < 2 ^ 32 → program M .count ≤ together b (allBudgets bs) → j < lanes →
         mapped (λ x. sampleOf (take (program M .outputs) (x .outputs)) j)
-        (started words (compiled M) inputs registers outputs b >>= (λ l. onward words (compiled M) inputs l bs)) ≡
+        (started wordGates (compiled M) inputs registers outputs b >>= (λ l. onward wordGates (compiled M) inputs l bs)) ≡
         gives (answerOf (drawn M (laneBits (M .columns) inputs j)))
     demand-2-stops b bs j h enough jl =
         let a = read-accepted file M e in
-        let budget : ℕ = together b (total bs) in
+        let budget : ℕ = together b (allBudgets bs) in
         let left = ended M a inputs registers outputs budget j jl small i r o enough .state .outputs in
         let front : take (program M .outputs) (lay left outputs) ≡ left =
         take-lay (program M .outputs) left outputs (long M a inputs registers outputs budget j jl small i r o enough ∙ sym (outputs-are M)) in
         rw (
-          start-onward words (compiled M) inputs registers outputs b bs h,
+          start-onward wordGates (compiled M) inputs registers outputs b bs h,
           start-is M a inputs registers outputs budget j jl small i r o enough,
           front,
         )
         (rw (start-is M a inputs registers outputs budget j jl small i r o enough) at (demand-2 budget j enough jl))
 
     -- and where registers and outputs that a stop left are put back at the front of other buffers: what the last call leaves
-    pub demand-2-moved : (b : ℕ) (bs : List ℕ) (first last : Ended ℕ) (j : ℕ) → b < 2 ^ 32 → program M .count ≤ together b (total bs) →
-        j < lanes → startOf (compiled M) inputs registers outputs b ≡ gives first → Chain words (compiled M) inputs first bs last →
+    pub demand-2-moved : (b : ℕ) (bs : List ℕ) (first last : Ended ℕ) (j : ℕ) → b < 2 ^ 32 → program M .count ≤ together b (allBudgets bs) →
+        j < lanes → startOf (compiled M) inputs registers outputs b ≡ gives first → Chain wordGates (compiled M) inputs first bs last →
         sampleOf (last .state .outputs) j ≡ answerOf (drawn M (laneBits (M .columns) inputs j))
     demand-2-moved b bs first last j h enough jl q c =
-        let whole = start-chain words (compiled M) inputs registers outputs b bs first last h q c in
-        gives-inj (rw whole at (demand-2 (together b (total bs)) j enough jl))
+        let whole = start-chain wordGates (compiled M) inputs registers outputs b bs first last h q c in
+        gives-inj (rw whole at (demand-2 (together b (allBudgets bs)) j enough jl))

@@ -12,7 +12,7 @@ use Rattle.laws.specs.Words.{bitAt, pack, bitAt-lt, bitAt-zero}
 use Rattle.laws.specs.Lay.{upto, upto-eq}
 use Rattle.laws.specs.Outcome.{gives, mapped}
 use Rattle.files.specs.Matrix.{Matrix, Accepted}
-use Rattle.machine.specs.Meaning.{words, bits, exec-long}
+use Rattle.machine.specs.Meaning.{wordGates, bitGates, exec-long}
 use Rattle.machine.specs.Runs.{Ended, startOf, startOn}
 use Rattle.machine.specs.LaneLaw.{lane, lane-start, mapEnded}
 use Rattle.walk.specs.Walk.{sample, missed, drawn, answerOf}
@@ -54,11 +54,11 @@ module _ (M : Matrix) (a : Accepted M) (inputs registers outputs : List ℕ) (bu
     (enough : program M .count ≤ budget) where
   -- where the start ends
   unfoldable pub ended : Ended ℕ
-  ended = whole words (translation M) inputs budget (fresh words M)
+  ended = whole wordGates (translation M) inputs budget (fresh wordGates M)
 
   pub start-is : startOf (compiled M) inputs registers outputs budget ≡ gives ended
   unfolding ended
-  start-is = start-compiled words M a inputs registers outputs budget i r o enough
+  start-is = start-compiled wordGates M a inputs registers outputs budget i r o enough
 
   columns-are : program M .inputs ≡ M .columns
   unfolding program
@@ -70,10 +70,10 @@ module _ (M : Matrix) (a : Accepted M) (inputs registers outputs : List ℕ) (bu
 
   pub long : length (ended .state .outputs) ≡ 1 + rowBits (M .rows)
   unfolding ended
-  long = exec-long words inputs (translation M) (fresh words M) .1 ∙ (length-replicate {A = ℕ} (program M .outputs) 0 ∙ outputs-are)
+  long = exec-long wordGates inputs (translation M) (fresh wordGates M) .1 ∙ (length-replicate {A = ℕ} (program M .outputs) 0 ∙ outputs-are)
 
   -- the lane's start, with bits for words
-  lane-is : startOn bits (compiled M) (map (lane j) inputs) (map (lane j) registers) (map (lane j) outputs) budget ≡ gives (mapEnded (lane j) ended)
+  lane-is : startOn bitGates (compiled M) (map (lane j) inputs) (map (lane j) registers) (map (lane j) outputs) budget ≡ gives (mapEnded (lane j) ended)
   lane-is = sym (lane-start j jl inputs small (compiled M) registers outputs budget) ∙ ap (mapped (mapEnded (lane j))) start-is
 
   carried-is : carried M (map (lane j) inputs) ≡ laneBits (M .columns) inputs j

@@ -15,7 +15,7 @@ use Rattle.programs.specs.Instructions.{uses, lengthOf, decodeOf}
 use Rattle.programs.specs.Header.{header-length}
 use Rattle.programs.specs.declared.description.Program.{Program}
 use Rattle.programs.specs.declared.description.Instruction.{Instruction}
-use Rattle.machine.specs.Meaning.{words, exec-long}
+use Rattle.machine.specs.Meaning.{wordGates, exec-long}
 use Rattle.machine.specs.Checks.{Code, every, also, inRange, instructionOf, codeOf, nothing, checkOf}
 use Rattle.machine.specs.Runs.{Ended, steps, runOf, roomFor, startOn, resumeOn, startOf, resumeOf}
 use Rattle.machine.specs.Standing.{readOf, Formed}
@@ -73,7 +73,7 @@ either false true c = refl
 either false false true = refl
 either false false false = refl
 
-room-is : (p : Program) (inputs registers outputs : List ℕ) → roomFor words p inputs registers outputs ≡
+room-is : (p : Program) (inputs registers outputs : List ℕ) → roomFor wordGates p inputs registers outputs ≡
     refuse 13 (ltb (length inputs) (p .inputs) || ltb (length registers) (p .registers) || ltb (length outputs) (p .outputs))
 room-is p inputs registers outputs = either (ltb (length inputs) (p .inputs)) (ltb (length registers) (p .registers)) (ltb (length outputs) (p .outputs))
 
@@ -104,7 +104,7 @@ module _ (o : Outcome (Ended ℕ)) (rs os : List ℕ) where
 -- what a run leaves, as the definition says it
 module _ (file : List ℕ) (p : Program) (a : Accepted file p) (inputs rs os : List ℕ) (position budget : ℕ) where
   abbrev run : Ended ℕ
-  run = runOf words (a .code .instructions) inputs position budget (state rs os)
+  run = runOf wordGates (a .code .instructions) inputs position budget (state rs os)
 
   run-ends : (r : Run) (rs′ os′ : List ℕ) → Ends file (p .count) inputs rs os position budget r rs′ os′ →
       (run .answer ≡ r) × (run .state .registers ≡ rs′) × (run .state .outputs ≡ os′)
@@ -115,7 +115,7 @@ module _ (file : List ℕ) (p : Program) (a : Accepted file p) (inputs rs os : L
   run-long : (length (run .state .registers) ≡ length rs) × (length (run .state .outputs) ≡ length os)
   unfolding runOf
   run-long =
-      exec-long words inputs (take (steps budget position (length (a .code .instructions))) (drop position (a .code .instructions))) (state rs os)
+      exec-long wordGates inputs (take (steps budget position (length (a .code .instructions))) (drop position (a .code .instructions))) (state rs os)
 
   run-answers : (o : Outcome (Ended ℕ)) (registers outputs : List ℕ) → o ≡ gives run → (r : Run) (rs′ os′ : List ℕ) →
       Ends file (p .count) inputs rs os position budget r rs′ os′ → (n m : ℕ) → length rs ≡ n → length os ≡ m →
@@ -149,7 +149,7 @@ module _ (file inputs registers outputs : List ℕ) where
       start-lacks t = rw (checks, header, room-is p inputs registers outputs, t)
 
       start-gives : lacking ≡ false → startOf file inputs registers outputs budget ≡
-          gives (runOf words (c .instructions) inputs 0 budget (state (replicate (p .registers) 0) (replicate (p .outputs) 0)))
+          gives (runOf wordGates (c .instructions) inputs 0 budget (state (replicate (p .registers) 0) (replicate (p .outputs) 0)))
       unfolding startOn
       start-gives f = rw (checks, header, room-is p inputs registers outputs, f)
 
@@ -164,7 +164,7 @@ module _ (file inputs registers outputs : List ℕ) where
           resume-lacks t = rw (checks, header, le-ltb (length (c .instructions)) position l, room-is p inputs registers outputs, t)
 
           resume-gives : lacking ≡ false → resumeOf file inputs registers outputs position budget ≡
-              gives (runOf words (c .instructions) inputs position budget (state (take (p .registers) registers) (take (p .outputs) outputs)))
+              gives (runOf wordGates (c .instructions) inputs position budget (state (take (p .registers) registers) (take (p .outputs) outputs)))
           unfolding resumeOn
           resume-gives f = rw (checks, header, le-ltb (length (c .instructions)) position l, room-is p inputs registers outputs, f)
 

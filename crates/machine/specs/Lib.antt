@@ -2,6 +2,7 @@
 pub mod Meaning
 pub mod Checks
 pub mod Runs
+pub mod Calls
 pub mod Fresh
 pub mod Standing
 pub mod Turns
@@ -10,4 +11,6 @@ pub mod Answers
 pub mod Accepting
 pub mod Encoding
 pub mod Resuming
+pub mod Numbers
+pub mod Unseen
 pub mod LaneLaw

@@ -15,8 +15,8 @@ use Rattle.programs.specs.Instructions.{lengthOf, decodeOf}
 use Rattle.programs.specs.Header.{header-length}
 use Rattle.programs.specs.declared.description.Instruction.{Instruction}
 use Rattle.programs.specs.declared.description.Instruction.the-variants.{Ones, Zero, Input, Not, And, Or, Output}
-use Rattle.machine.specs.Meaning.{words, State, step, exec}
-use Rattle.machine.specs.Runs.{steps, answerOf}
+use Rattle.machine.specs.Meaning.{wordGates, State, step, exec}
+use Rattle.machine.specs.Runs.{steps, runAnswer}
 use Rattle.machine.specs.declared.runs.Run.{Run}
 use Rattle.machine.specs.Standing.{InRange, onGives, readOf, Formed, formed-less, Known, Standing, Stands, Ready, Gate, read-first, some-ready, ready-room, is-ones, is-zero, is-input, is-not, is-and, is-or, is-output, formed-next, Four, one-passed, two-passed, three-passed, four-passed}
 
@@ -56,12 +56,12 @@ pub record Does (file : List ℕ) (at : ℕ) (ins rs os : List ℕ) (next : ℕ)
   pub i : Instruction
   pub reads : decodeOf (drop at file) ≡ gives i
   pub ahead : next ≡ at + lengthOf i
-  pub does : step words ins i (state rs os) ≡ state rs′ os′
+  pub does : step wordGates ins i (state rs os) ≡ state rs′ os′
   pub long : length rs′ ≡ length rs
   pub wide : length os′ ≡ length os
 
 module _ (file : List ℕ) (at : ℕ) (ins rs os : List ℕ) where
-  does : (i : Instruction) (rs′ os′ : List ℕ) → Stands file at i → step words ins i (state rs os) ≡ state rs′ os′ → length rs′ ≡ length rs →
+  does : (i : Instruction) (rs′ os′ : List ℕ) → Stands file at i → step wordGates ins i (state rs os) ≡ state rs′ os′ → length rs′ ≡ length rs →
       length os′ ≡ length os → Does file at ins rs os (at + lengthOf i) rs′ os′
   does i rs′ os′ s e l w = record { i = i; reads = s .reads; ahead = refl; does = e; long = l; wide = w }
 
@@ -109,20 +109,20 @@ module _ (file : List ℕ) (at : ℕ) (ins rs os : List ℕ) where
 pub record Along (file : List ℕ) (n₀ from : ℕ) (rs₀ : List ℕ) (n at : ℕ) (rs : List ℕ) : Type 0 where
   pub formed : (ni nq : ℕ) → Formed n₀ (length rs₀) ni nq (drop from file) → Formed n (length rs₀) ni nq (drop at file)
   pub same : (ins os : List ℕ) →
-      exec words ins (readOf n (drop at file)) (state rs os) ≡ exec words ins (readOf n₀ (drop from file)) (state rs₀ os)
+      exec wordGates ins (readOf n (drop at file)) (state rs os) ≡ exec wordGates ins (readOf n₀ (drop from file)) (state rs₀ os)
   pub less : n ≤ n₀
   pub long : length rs ≡ length rs₀
 
 -- ---- a run under way
 pub record Going (file : List ℕ) (ins rs₀ os₀ : List ℕ) (n₀ from : ℕ) (rs os : List ℕ) (n at : ℕ) : Type 0 where
   pub formed : Formed n (length rs₀) (length ins) (length os₀) (drop at file)
-  pub same : exec words ins (readOf n (drop at file)) (state rs os) ≡ exec words ins (readOf n₀ (drop from file)) (state rs₀ os₀)
+  pub same : exec wordGates ins (readOf n (drop at file)) (state rs os) ≡ exec wordGates ins (readOf n₀ (drop from file)) (state rs₀ os₀)
   pub long : length rs ≡ length rs₀
   pub wide : length os ≡ length os₀
 
 -- one instruction is done
 exec-first : (n : ℕ) (file : List ℕ) (at : ℕ) (i : Instruction) (ins : List ℕ) (s : State ℕ) → decodeOf (drop at file) ≡ gives i →
-    exec words ins (readOf (suc n) (drop at file)) s ≡ exec words ins (readOf n (drop (at + lengthOf i) file)) (step words ins i s)
+    exec wordGates ins (readOf (suc n) (drop at file)) s ≡ exec wordGates ins (readOf n (drop (at + lengthOf i) file)) (step wordGates ins i s)
 unfolding exec
 exec-first n file at i ins s e = rw (read-first n (drop at file) i e, drop-drop (lengthOf i) at file)
 
@@ -132,11 +132,11 @@ module _ (file : List ℕ) (n₀ from : ℕ) (rs₀ : List ℕ) where
 
   module _ (n at : ℕ) (rs : List ℕ) (g : Along file n₀ from rs₀ n at rs) where
     along-suc : (m : ℕ) → n ≡ suc m → (i : Instruction) (rs′ : List ℕ) → decodeOf (drop at file) ≡ gives i →
-        ((ins os : List ℕ) → step words ins i (state rs os) ≡ state rs′ os) → length rs′ ≡ length rs → Along file n₀ from rs₀ m (at + lengthOf i) rs′
+        ((ins os : List ℕ) → step wordGates ins i (state rs os) ≡ state rs′ os) → length rs′ ≡ length rs → Along file n₀ from rs₀ m (at + lengthOf i) rs′
     along-suc m q i rs′ e d l =
         record {
           formed = λ ni nq f. formed-next m (length rs₀) ni nq file at i e (rw q at (g .formed ni nq f));
-          same = λ ins os. ap (exec words ins (readOf m (drop (at + lengthOf i) file))) (sym (d ins os)) ∙
+          same = λ ins os. ap (exec wordGates ins (readOf m (drop (at + lengthOf i) file))) (sym (d ins os)) ∙
               (sym (exec-first m file at i ins (state rs os) e) ∙ rw q at (g .same ins os));
           less = omega (arith, g .less);
           long = l ∙ g .long;
@@ -238,9 +238,9 @@ pub along-known : (file : List ℕ) (n₀ from : ℕ) (rs₀ : List ℕ) (n at :
 along-known file n₀ from rs₀ n at rs g k = record { ni = k .ni; nq = k .nq; formed = rw (g .long) (g .formed (k .ni) (k .nq) (k .formed)) }
 
 -- what a run of n instructions from a byte on leaves
-pub record Carried (file : List ℕ) (from n : ℕ) (ins rs os rs′ os′ : List ℕ) : Type 0 where
-  pub registers : rs′ ≡ (exec words ins (readOf n (drop from file)) (state rs os)) .registers
-  pub outputs : os′ ≡ (exec words ins (readOf n (drop from file)) (state rs os)) .outputs
+pub record RunLeaves (file : List ℕ) (from n : ℕ) (ins rs os rs′ os′ : List ℕ) : Type 0 where
+  pub registers : rs′ ≡ (exec wordGates ins (readOf n (drop from file)) (state rs os)) .registers
+  pub outputs : os′ ≡ (exec wordGates ins (readOf n (drop from file)) (state rs os)) .outputs
 
 module _ (file : List ℕ) (ins rs₀ os₀ : List ℕ) (n₀ from : ℕ) where
   pub going-none : Formed n₀ (length rs₀) (length ins) (length os₀) (drop from file) → Going file ins rs₀ os₀ n₀ from rs₀ os₀ n₀ from
@@ -252,7 +252,7 @@ module _ (file : List ℕ) (ins rs₀ os₀ : List ℕ) (n₀ from : ℕ) where
         rw (d .ahead)
         (record {
           formed = formed-next m (length rs₀) (length ins) (length os₀) file at (d .i) (d .reads) (rw q at (g .formed));
-          same = ap (exec words ins (readOf m (drop (at + lengthOf (d .i)) file))) (sym (d .does)) ∙
+          same = ap (exec wordGates ins (readOf m (drop (at + lengthOf (d .i)) file))) (sym (d .does)) ∙
               (sym (exec-first m file at (d .i) ins (state rs os) (d .reads)) ∙ rw q at (g .same));
           long = d .long ∙ g .long;
           wide = d .wide ∙ g .wide;
@@ -277,11 +277,11 @@ module _ (file : List ℕ) (ins rs₀ os₀ : List ℕ) (n₀ from : ℕ) where
     pub going-known : Known n (length rs) (drop at file)
     going-known = record { ni = length ins; nq = length os₀; formed = rw (g .long) (g .formed) }
 
-    pub going-done : n ≤ 0 → Carried file from n₀ ins rs₀ os₀ rs os
+    pub going-done : n ≤ 0 → RunLeaves file from n₀ ins rs₀ os₀ rs os
     unfolding readOf exec
     going-done l =
         let z : n ≡ 0 = omega arith in
-        let e : state rs os ≡ exec words ins (readOf n₀ (drop from file)) (state rs₀ os₀) = rw z at (g .same) in
+        let e : state rs os ≡ exec wordGates ins (readOf n₀ (drop from file)) (state rs₀ os₀) = rw z at (g .same) in
         record { registers = ap (λ (s : State ℕ). s .registers) e; outputs = ap (λ (s : State ℕ). s .outputs) e }
 
 -- ---- going past instructions
@@ -330,11 +330,11 @@ past-done file from n k position at a b g =
 -- ---- a whole run
 -- its answer, and the registers and outputs that it leaves
 pub record Ends (file : List ℕ) (count : ℕ) (ins rs os : List ℕ) (position budget : ℕ) (r : Run) (rs′ os′ : List ℕ) : Type 0 where
-  pub answer : r ≡ answerOf budget position count
+  pub answer : r ≡ runAnswer budget position count
   pub registers : rs′ ≡
-      (exec words ins (take (steps budget position count) (drop position (readOf count (drop header-length file)))) (state rs os)) .registers
+      (exec wordGates ins (take (steps budget position count) (drop position (readOf count (drop header-length file)))) (state rs os)) .registers
   pub outputs : os′ ≡
-      (exec words ins (take (steps budget position count) (drop position (readOf count (drop header-length file)))) (state rs os)) .outputs
+      (exec wordGates ins (take (steps budget position count) (drop position (readOf count (drop header-length file)))) (state rs os)) .outputs
 
 read-take : (m n nr ni nq : ℕ) (bytes : List ℕ) → m ≤ n → Formed n nr ni nq bytes → readOf m bytes ≡ take m (readOf n bytes)
 unfolding readOf Formed
@@ -355,7 +355,7 @@ module _ (file : List ℕ) (count : ℕ) (ins rs os : List ℕ) (position budget
   left-formed : Formed n (length rs) (length ins) (length os) (drop at file)
   left-formed = formed-less n (count - position) _ _ _ (drop at file) (omega arith) (p .formed _ _ _ f)
 
-  ends : (rs′ os′ : List ℕ) → Carried file at n ins rs os rs′ os′ →
+  ends : (rs′ os′ : List ℕ) → RunLeaves file at n ins rs os rs′ os′ →
       Ends file count ins rs os position budget
       (record { finished = eqb (position + n) count; position = position + n; count = n; budget = budget }) rs′ os′
   ends rs′ os′ c =
@@ -401,7 +401,7 @@ module _ (fresh : Bool) (file : List ℕ) (count : ℕ) (ins rs os rs′ os′ :
   pub run-formed : Formed n (length rs′) (length ins) (length os′) (drop at file)
   run-formed = left-formed file count ins rs′ os′ position budget prepared-formed at p n is-n
 
-  pub run-ends : (rs″ os″ : List ℕ) → Carried file at n ins rs′ os′ rs″ os″ →
+  pub run-ends : (rs″ os″ : List ℕ) → RunLeaves file at n ins rs′ os′ rs″ os″ →
       Ends file count ins (prepared fresh rs) (prepared fresh os) position budget
       (record { finished = eqb (position + n) count; position = position + n; count = n; budget = budget }) rs″ os″
   run-ends rs″ os″ c =

@@ -7,7 +7,7 @@ ghost use lib.ListN.{drop, length, replicate};
 ghost use Rattle.laws.specs.Lay.{lay};
 ghost use Rattle.laws.specs.Outcome.{laid, mapped};
 ghost use Rattle.programs.specs.Header.{header-length};
-ghost use Rattle.machine.specs.Meaning.{words};
+ghost use Rattle.machine.specs.Meaning.{wordGates};
 ghost use Rattle.machine.specs.Runs.{ran, resumeOf, startOf};
 ghost use Rattle.machine.specs.Standing.{Formed, Standing};
 ghost use Rattle.machine.specs.Turns.{Ends, Past, prepared};

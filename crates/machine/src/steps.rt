@@ -5,7 +5,7 @@ ghost use Prim.Native.Nat.{_+_, _*_, _≤_, _<_, min};
 ghost use lib.ListN.{drop, length};
 ghost use Rattle.files.specs.Fields.{fieldOf};
 ghost use Rattle.machine.specs.Standing.{Formed, Four, Gate, Known, Ready, Standing};
-ghost use Rattle.machine.specs.Turns.{Along, andWords, Carried, Does, orWords};
+ghost use Rattle.machine.specs.Turns.{Along, andWords, RunLeaves, Does, orWords};
 use programs::Instruction;
 
 // The 16-bit field at `at`, in bytes that hold it.
@@ -210,7 +210,7 @@ pub(crate) fn run_from(
     outputs: &mut [u64],
 )
     requires { ⌜ Formed steps (length (now registers)) (length (now inputs)) (length (now outputs)) (drop from (now file)) ⌝ }
-    ensures { λ _. ⌜ Carried (now (file .entry)) from steps (now (inputs .entry)) (now (registers .entry)) (now (outputs .entry)) (now (registers .exit)) (now (outputs .exit)) ⌝ }
+    ensures { λ _. ⌜ RunLeaves (now (file .entry)) from steps (now (inputs .entry)) (now (registers .entry)) (now (outputs .entry)) (now (registers .exit)) (now (outputs .exit)) ⌝ }
 {
     let mut more = steps;
     let mut at = from;
