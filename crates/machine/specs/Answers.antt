@@ -19,7 +19,8 @@ use Rattle.machine.specs.Meaning.{wordGates, exec-long}
 use Rattle.machine.specs.Checks.{Code, every, also, inRange, instructionOf, codeOf, nothing, checkOf}
 use Rattle.machine.specs.Runs.{Ended, steps, runOf, roomFor, startOn, resumeOn, startOf, resumeOf}
 use Rattle.machine.specs.Standing.{readOf, Formed}
-use Rattle.machine.specs.Turns.{state, Ends}
+use Rattle.machine.specs.Steps.{state}
+use Rattle.machine.specs.Turns.{Ends}
 use Rattle.machine.specs.Checking.{range-means, range-wider, instruction-means, check-says}
 use Rattle.machine.specs.declared.runs.Run.{Run}
 

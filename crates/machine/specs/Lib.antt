@@ -5,6 +5,7 @@ pub mod Runs
 pub mod Calls
 pub mod Fresh
 pub mod Standing
+pub mod Steps
 pub mod Turns
 pub mod Checking
 pub mod Answers

@@ -5,7 +5,8 @@ ghost use Prim.Native.Nat.{_+_, _*_, _≤_, _<_, min};
 ghost use lib.ListN.{drop, length};
 ghost use Rattle.files.specs.Fields.{fieldOf};
 ghost use Rattle.machine.specs.Standing.{Formed, Four, Gate, Known, Ready, Standing};
-ghost use Rattle.machine.specs.Turns.{Along, andWords, RunLeaves, Does, orWords};
+ghost use Rattle.machine.specs.Steps.{conjunction, disjunction, Does, gateWords};
+ghost use Rattle.machine.specs.Turns.{Along, RunLeaves};
 use programs::Instruction;
 
 // The 16-bit field at `at`, in bytes that hold it.
@@ -33,7 +34,7 @@ pub(crate) fn lesser(a: usize, b: usize) -> usize
 // The AND at byte `at`.
 fn and_at(file: &[u8], at: usize, registers: &mut [u64])
     requires { ⌜ Gate (now file) at (length (now registers)) ⌝ }
-    ensures { λ _. ⌜ now (registers .exit) ≡ andWords (now (file .entry)) at (now (registers .entry)) ⌝ }
+    ensures { λ _. ⌜ now (registers .exit) ≡ gateWords conjunction (now (file .entry)) at (now (registers .entry)) ⌝ }
 {
     let to = field_at(file, at + 4);
     let a = field_at(file, at + 6);
@@ -44,7 +45,7 @@ fn and_at(file: &[u8], at: usize, registers: &mut [u64])
 // The OR at byte `at`.
 fn or_at(file: &[u8], at: usize, registers: &mut [u64])
     requires { ⌜ Gate (now file) at (length (now registers)) ⌝ }
-    ensures { λ _. ⌜ now (registers .exit) ≡ orWords (now (file .entry)) at (now (registers .entry)) ⌝ }
+    ensures { λ _. ⌜ now (registers .exit) ≡ gateWords disjunction (now (file .entry)) at (now (registers .entry)) ⌝ }
 {
     let to = field_at(file, at + 4);
     let a = field_at(file, at + 6);
