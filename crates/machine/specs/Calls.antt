@@ -34,22 +34,33 @@ pub record Sized {A : Type 0} (p : Program) (s : State A) : Type 0 where
   pub of-outputs : length (s .outputs) ≡ p .outputs
 
 -- ---- calls
-pub data Call : Type 0 where
-  start : Call
-  resume : ℕ → Call
+-- a start, or a resume at a position
+pub data Entry : Type 0 where
+  start : Entry
+  resume : ℕ → Entry
 
--- the position at which a call begins
-abbrev pub begins : Call → ℕ
-begins start = 0
-begins (resume position) = position
+abbrev pub onEntry {ℓ} : {B : Type ℓ} → Entry → B → (ℕ → B) → B
+onEntry start x f = x
+onEntry (resume position) x f = f position
 
--- an accepted program that a call may run
-pub record Runnable {A : Type 0} (file : List ℕ) (inputs registers outputs : List A) (position : ℕ) (c : Code) : Type 0 where
-  pub accepted : checkOf file ≡ gives c
-  pub before-end : position ≤ length (c .instructions)
-  pub room : Room (c .program) inputs registers outputs
+-- with its file and the words that are lent
+pub record Call (A : Type 0) : Type 0 where
+  pub gates : Gates A
+  pub file : List ℕ
+  pub inputs : List A
+  pub registers : List A
+  pub outputs : List A
+  pub entry : Entry
 
 module _ {A : Type 0} (G : Gates A) where
+  abbrev pub starting : List ℕ → List A → List A → List A → Call A
+  starting file inputs registers outputs =
+      record { gates = G; file = file; inputs = inputs; registers = registers; outputs = outputs; entry = start }
+
+  abbrev pub resuming : List ℕ → List A → List A → List A → ℕ → Call A
+  resuming file inputs registers outputs position =
+      record { gates = G; file = file; inputs = inputs; registers = registers; outputs = outputs; entry = resume position }
+
   -- the states from which a start and a resume run
   abbrev pub cleared : Program → State A
   cleared p = record { registers = replicate (p .registers) (G .zeros); outputs = replicate (p .outputs) (G .zeros) }
@@ -65,20 +76,35 @@ module _ {A : Type 0} (G : Gates A) where
     roomFor G (c .program) inputs registers outputs
     gives c
 
-  module _ (registers outputs : List A) where
-    -- the state from which a call runs
-    abbrev pub from : Call → Program → State A
-    from start p = cleared p
-    from (resume position) p = lent p registers outputs
+-- an accepted program that a call may run
+pub record Runnable {A : Type 0} (file : List ℕ) (inputs registers outputs : List A) (position : ℕ) (c : Code) : Type 0 where
+  pub accepted : checkOf file ≡ gives c
+  pub before-end : position ≤ length (c .instructions)
+  pub room : Room (c .program) inputs registers outputs
 
-    -- what it runs of an admitted program
-    abbrev pub callRun : List A → Call → ℕ → Code → Ended A
-    callRun inputs call budget c = runOf G (c .instructions) inputs (begins call) budget (from call (c .program))
-
+module _ {A : Type 0} (k : Call A) where
   -- what a call comes to
-  abbrev pub callOn : List ℕ → List A → List A → List A → Call → ℕ → Outcome (Ended A)
-  callOn file inputs registers outputs start budget = startOn G file inputs registers outputs budget
-  callOn file inputs registers outputs (resume position) budget = resumeOn G file inputs registers outputs position budget
+  abbrev pub callOn : ℕ → Outcome (Ended A)
+  callOn budget =
+      onEntry (k .entry) (startOn (k .gates) (k .file) (k .inputs) (k .registers) (k .outputs) budget)
+      (λ position. resumeOn (k .gates) (k .file) (k .inputs) (k .registers) (k .outputs) position budget)
+
+  -- the position and the state from which it runs
+  abbrev pub begins : ℕ
+  begins = onEntry (k .entry) 0 (λ position. position)
+
+  abbrev pub from : Program → State A
+  from p = onEntry (k .entry) (cleared (k .gates) p) (λ position. lent (k .gates) p (k .registers) (k .outputs))
+
+  -- the program that it admits, and what it runs of it
+  abbrev pub admits : Outcome Code
+  admits = admitted (k .gates) (k .file) (k .inputs) (k .registers) (k .outputs) begins
+
+  abbrev pub MayRun : Code → Type 0
+  MayRun = Runnable (k .file) (k .inputs) (k .registers) (k .outputs) begins
+
+  abbrev pub callRun : ℕ → Code → Ended A
+  callRun budget c = runOf (k .gates) (c .instructions) (k .inputs) begins budget (from (c .program))
 
 -- ---- what the checks before a run say
 module _ {A : Type 0} (G : Gates A) where
@@ -137,47 +163,29 @@ module _ {A : Type 0} (G : Gates A) where
     admitted-enough position enough =
         bind-eq (checkOf file) _ _ (λ c e. rw (room-gives (c .program) inputs registers outputs (enough c e)))
 
-    -- ---- a call is a run of the admitted program
+    -- ---- a start and a resume are runs of the admitted program
     pub start-is : (budget : ℕ) → startOn G file inputs registers outputs budget ≡
-        mapped (callRun G registers outputs inputs start budget) (admitted G file inputs registers outputs 0)
+        mapped (callRun (starting G file inputs registers outputs) budget) (admitted G file inputs registers outputs 0)
     unfolding startOn admitted
     start-is budget =
-        mapped-bind (checkOf file) _ _ (callRun G registers outputs inputs start budget)
-        (λ c. rw (le-ltb (length (c .instructions)) 0 (omega arith))
-        (mapped-then (roomFor G (c .program) inputs registers outputs) _ _ (callRun G registers outputs inputs start budget) refl))
+        let run : Code → Ended A = callRun (starting G file inputs registers outputs) budget in
+        mapped-bind (checkOf file) _ _ run
+        (λ c. rw (le-ltb (length (c .instructions)) 0 (omega arith)) (mapped-then (roomFor G (c .program) inputs registers outputs) _ _ run refl))
 
     pub resume-is : (position budget : ℕ) → resumeOn G file inputs registers outputs position budget ≡
-        mapped (callRun G registers outputs inputs (resume position) budget) (admitted G file inputs registers outputs position)
+        mapped (callRun (resuming G file inputs registers outputs position) budget) (admitted G file inputs registers outputs position)
     unfolding resumeOn admitted
     resume-is position budget =
-        let run : Code → Ended A = callRun G registers outputs inputs (resume position) budget in
+        let run : Code → Ended A = callRun (resuming G file inputs registers outputs position) budget in
         mapped-bind (checkOf file) _ _ run
         (λ c. mapped-then (refuse 12 (ltb (length (c .instructions)) position)) _ _ run
         (mapped-then (roomFor G (c .program) inputs registers outputs) _ _ run refl))
 
-    pub call-is : (call : Call) (budget : ℕ) → callOn G file inputs registers outputs call budget ≡
-        mapped (callRun G registers outputs inputs call budget) (admitted G file inputs registers outputs (begins call))
-    call-is start budget = start-is budget
-    call-is (resume position) budget = resume-is position budget
-
-    -- a part of what it comes to
-    pub call-part : {C : Type 0} (call : Call) (budget : ℕ) (f : Ended A → C) → mapped f (callOn G file inputs registers outputs call budget) ≡
-        mapped (λ c. f (callRun G registers outputs inputs call budget c)) (admitted G file inputs registers outputs (begins call))
-    call-part call budget f =
-        rw (call-is call budget)
-        (mapped-mapped (callRun G registers outputs inputs call budget) f _ (admitted G file inputs registers outputs (begins call)) (λ c. refl))
-
-    -- so a call that may run its program gives that run, and one that gives a result has run
-    pub call-gives : (call : Call) (budget : ℕ) (c : Code) → Runnable file inputs registers outputs (begins call) c →
-        callOn G file inputs registers outputs call budget ≡ gives (callRun G registers outputs inputs call budget c)
-    call-gives call budget c w = call-is call budget ∙ rw (admitted-gives (begins call) c w)
-
-    pub call-ran : (call : Call) (budget : ℕ) (e : Ended A) → callOn G file inputs registers outputs call budget ≡ gives e →
-        (c : Code) × (Runnable file inputs registers outputs (begins call) c) × (callRun G registers outputs inputs call budget c ≡ e)
-    call-ran call budget e q =
-        let m = mapped-gives (callRun G registers outputs inputs call budget) (admitted G file inputs registers outputs (begins call)) e
-        (sym q ∙ call-is call budget) in
-        (m .0, admitted-says (begins call) (m .0) (m .1), m .2)
+    entry-is : (e : Entry) (budget : ℕ) →
+        let k : Call A = record { gates = G; file = file; inputs = inputs; registers = registers; outputs = outputs; entry = e } in
+        callOn k budget ≡ mapped (callRun k budget) (admits k)
+    entry-is start budget = start-is budget
+    entry-is (resume position) budget = resume-is position budget
 
   -- ---- a call's words are as many as the header says, before it and after
   pub sized-cleared : (p : Program) → Sized p (cleared G p)
@@ -192,11 +200,6 @@ module _ {A : Type 0} (G : Gates A) where
         of-outputs = length-take-le (p .outputs) outputs (r .for-outputs);
       }
 
-  pub sized-from : (p : Program) (inputs registers outputs : List A) → Room p inputs registers outputs → (call : Call) →
-      Sized p (from G registers outputs call p)
-  sized-from p inputs registers outputs r start = sized-cleared p
-  sized-from p inputs registers outputs r (resume position) = sized-lent p inputs registers outputs r
-
   pub sized-run : (p : Program) (is : List Instruction) (inputs : List A) (position budget : ℕ) (s : State A) → Sized p s →
       Sized p (runOf G is inputs position budget s .state)
   unfolding runOf
@@ -204,10 +207,49 @@ module _ {A : Type 0} (G : Gates A) where
       let l = exec-long G inputs (carried budget position is) s in
       record { of-registers = l .0 ∙ z .of-registers; of-outputs = l .1 ∙ z .of-outputs }
 
+-- ---- a call is a run of the program that it admits
+module _ {A : Type 0} (k : Call A) where
+  pub call-is : (budget : ℕ) → callOn k budget ≡ mapped (callRun k budget) (admits k)
+  call-is = entry-is (k .gates) (k .file) (k .inputs) (k .registers) (k .outputs) (k .entry)
+
+  -- a part of what it comes to
+  pub call-part : {C : Type 0} (budget : ℕ) (f : Ended A → C) → mapped f (callOn k budget) ≡ mapped (λ c. f (callRun k budget c)) (admits k)
+  call-part budget f = rw (call-is budget) (mapped-mapped (callRun k budget) f _ (admits k) (λ c. refl))
+
+  pub admits-says : (c : Code) → admits k ≡ gives c → MayRun k c
+  admits-says = admitted-says (k .gates) (k .file) (k .inputs) (k .registers) (k .outputs) (begins k)
+
+  -- so a call that may run its program gives that run, and one that gives a result has run
+  pub call-gives : (budget : ℕ) (c : Code) → MayRun k c → callOn k budget ≡ gives (callRun k budget c)
+  call-gives budget c w =
+      call-is budget ∙ rw (admitted-gives (k .gates) (k .file) (k .inputs) (k .registers) (k .outputs) (begins k) c w)
+
+  pub call-ran : (budget : ℕ) (e : Ended A) → callOn k budget ≡ gives e → (c : Code) × (MayRun k c) × (callRun k budget c ≡ e)
+  call-ran budget e q =
+      let m = mapped-gives (callRun k budget) (admits k) e (sym q ∙ call-is budget) in
+      (m .0, admits-says (m .0) (m .1), m .2)
+
+  pub sized-from : (p : Program) → Room p (k .inputs) (k .registers) (k .outputs) → Sized p (from k p)
+  sized-from p r = by (k .entry)
+    where
+      by : (e : Entry) → Sized p (onEntry e (cleared (k .gates) p) (λ position. lent (k .gates) p (k .registers) (k .outputs)))
+      by start = sized-cleared (k .gates) p
+      by (resume position) = sized-lent (k .gates) p (k .inputs) (k .registers) (k .outputs) r
+
 -- ---- two calls, of one kind of gates or of two
+-- two calls that admit the same program agree in what their runs of it agree in
+pub calls-agree : {A B C : Type 0} (k : Call A) (k′ : Call B) (budget : ℕ) → admits k ≡ admits k′ → (f : Ended A → C) (g : Ended B → C) →
+    ((c : Code) → MayRun k c → f (callRun k budget c) ≡ g (callRun k′ budget c)) → mapped f (callOn k budget) ≡ mapped g (callOn k′ budget)
+calls-agree k k′ budget same f g agree =
+    rw (call-part k budget f, call-part k′ budget g, ← same) (mapped-same _ _ (admits k) (λ c e. agree c (admits-says k c e)))
+
+pub calls-equal : {A : Type 0} (k k′ : Call A) (budget : ℕ) → admits k ≡ admits k′ →
+    ((c : Code) → MayRun k c → callRun k budget c ≡ callRun k′ budget c) → callOn k budget ≡ callOn k′ budget
+calls-equal k k′ budget same agree = sym (mapped-id _) ∙ (calls-agree k k′ budget same (λ e. e) (λ e. e) agree ∙ mapped-id _)
+
+-- where both are enough words, or both are as many words, the same program is admitted
 module _ {A B : Type 0} (G : Gates A) (H : Gates B) (file : List ℕ) (inputs registers outputs : List A)
     (inputs′ registers′ outputs′ : List B) where
-  -- where both are enough words, or both are as many words, the same program is admitted
   pub both-enough : Enough file inputs registers outputs → Enough file inputs′ registers′ outputs′ → (position : ℕ) →
       admitted G file inputs registers outputs position ≡ admitted H file inputs′ registers′ outputs′ position
   both-enough enough enough′ position =
@@ -218,25 +260,3 @@ module _ {A B : Type 0} (G : Gates A) (H : Gates B) (file : List ℕ) (inputs re
       (position : ℕ) → admitted G file inputs registers outputs position ≡ admitted H file inputs′ registers′ outputs′ position
   unfolding admitted
   equal-lengths i r o position = rw (i, r, o)
-
-  module _ (call call′ : Call) (budget : ℕ)
-      (same : admitted G file inputs registers outputs (begins call) ≡ admitted H file inputs′ registers′ outputs′ (begins call′)) where
-    -- two calls that admit the same program agree in what their runs of it agree in
-    pub calls-agree : {C : Type 0} (f : Ended A → C) (g : Ended B → C) →
-        ((c : Code) → Runnable file inputs registers outputs (begins call) c →
-        f (callRun G registers outputs inputs call budget c) ≡ g (callRun H registers′ outputs′ inputs′ call′ budget c)) →
-        mapped f (callOn G file inputs registers outputs call budget) ≡ mapped g (callOn H file inputs′ registers′ outputs′ call′ budget)
-    calls-agree f g agree =
-        rw (call-part G file inputs registers outputs call budget f, call-part H file inputs′ registers′ outputs′ call′ budget g, ← same)
-        (mapped-same _ _ (admitted G file inputs registers outputs (begins call))
-        (λ c e. agree c (admitted-says G file inputs registers outputs (begins call) c e)))
-
--- and come to the same where they run the same
-pub calls-equal : {A : Type 0} (G : Gates A) (file : List ℕ) (inputs registers outputs inputs′ registers′ outputs′ : List A) (call : Call)
-    (budget : ℕ) → admitted G file inputs registers outputs (begins call) ≡ admitted G file inputs′ registers′ outputs′ (begins call) →
-    ((c : Code) → Runnable file inputs registers outputs (begins call) c →
-    callRun G registers outputs inputs call budget c ≡ callRun G registers′ outputs′ inputs′ call budget c) →
-    callOn G file inputs registers outputs call budget ≡ callOn G file inputs′ registers′ outputs′ call budget
-calls-equal G file inputs registers outputs inputs′ registers′ outputs′ call budget same agree =
-    sym (mapped-id _) ∙
-    (calls-agree G G file inputs registers outputs inputs′ registers′ outputs′ call call budget same (λ e. e) (λ e. e) agree ∙ mapped-id _)

@@ -16,7 +16,8 @@ use Rattle.programs.specs.declared.description.Instruction.the-variants.{Ones, 
 use Rattle.machine.specs.Meaning.{Gates, wordGates, bitGates, State, step, exec}
 use Rattle.machine.specs.Checks.{Code}
 use Rattle.machine.specs.Runs.{Ended, carried, runOf, startOn, resumeOn, startOf, resumeOf}
-use Rattle.machine.specs.Calls.{Call, start, resume, begins, from, callOn, call-ran, equal-lengths, calls-agree}
+use Rattle.machine.specs.Calls.{Entry, start, resume, onEntry, Call, starting, resuming, cleared, lent, callOn, begins, from}
+use Rattle.machine.specs.Calls.{call-ran, equal-lengths, calls-agree}
 use Rattle.machine.specs.Unseen.{start-forgets}
 
 -- ---- maps that commute with the gates
@@ -82,38 +83,6 @@ module _ {A : Type 0} (G : Gates A) (P : A → Type 0) (c : Closed G P) (inputs 
   unfolding runOf
   run-kept is position budget s k = exec-kept (carried budget position is) s k
 
-  module _ (file : List ℕ) (registers outputs : List A) where
-    -- what is asked of the words that a call runs from; a start clears them
-    abbrev pub AllLent : Call → Type 0
-    AllLent start = Unit {0}
-    AllLent (resume position) = All G P registers × All G P outputs
-
-    kept-from : (call : Call) (q : Program) → AllLent call → Kept G P (from G registers outputs call q)
-    kept-from start q a =
-        record {
-          registers = all-replicate P (G .zeros) (q .registers) (c .zeros);
-          outputs = all-replicate P (G .zeros) (q .outputs) (c .zeros);
-        }
-    kept-from (resume position) q a =
-        record {
-          registers = all-take P (G .zeros) (q .registers) registers (c .zeros) (a .0);
-          outputs = all-take P (G .zeros) (q .outputs) outputs (c .zeros) (a .1);
-        }
-
-    call-kept : (call : Call) (budget : ℕ) (e : Ended A) → AllLent call → callOn G file inputs registers outputs call budget ≡ gives e →
-        Kept G P (e .state)
-    call-kept call budget e a q =
-        let r = call-ran G file inputs registers outputs call budget e q in
-        let x : Code = r .0 in
-        rw (← r .2) (run-kept (x .instructions) (begins call) budget (from G registers outputs call (x .program)) (kept-from call (x .program) a))
-
-    pub start-kept : (budget : ℕ) (e : Ended A) → startOn G file inputs registers outputs budget ≡ gives e → Kept G P (e .state)
-    start-kept budget e = call-kept start budget e tt
-
-    pub resume-kept : (position budget : ℕ) (e : Ended A) → All G P registers → All G P outputs →
-        resumeOn G file inputs registers outputs position budget ≡ gives e → Kept G P (e .state)
-    resume-kept position budget e a b = call-kept (resume position) budget e (a, b)
-
   -- ---- a map that commutes with the gates commutes with instructions
   module _ {B : Type 0} (H : Gates B) (f : A → B) (m : Commutes G H P f) where
     at-map : (xs : List A) (r : ℕ) → f (getD xs r (G .zeros)) ≡ getD (map f xs) r (H .zeros)
@@ -149,33 +118,75 @@ module _ {A : Type 0} (G : Gates A) (P : A → Type 0) (c : Closed G P) (inputs 
     unfolding runOf
     run-map is position budget s k = rw (exec-map (carried budget position is) s k)
 
-    module _ (file : List ℕ) (registers outputs : List A) where
-      map-from : (call : Call) (q : Program) →
-          mapState f (from G registers outputs call q) ≡ from H (map f registers) (map f outputs) call q
-      map-from start q = rw (map-replicate f (q .registers) (G .zeros), map-replicate f (q .outputs) (G .zeros), m .zeros)
-      map-from (resume position) q = rw (map-take f (q .registers) registers, map-take f (q .outputs) outputs)
+-- ---- and so with a call
+-- what is asked of the words that a call runs from; a start clears them
+abbrev pub AllLent : {A : Type 0} → (A → Type 0) → Call A → Type 0
+AllLent P k = onEntry (k .entry) (Unit {0}) (λ position. All (k .gates) P (k .registers) × All (k .gates) P (k .outputs))
 
-      call-map : (call : Call) (budget : ℕ) → AllLent file registers outputs call →
-          mapped (mapEnded f) (callOn G file inputs registers outputs call budget) ≡
-          callOn H file (map f inputs) (map f registers) (map f outputs) call budget
-      call-map call budget a =
-          calls-agree G H file inputs registers outputs (map f inputs) (map f registers) (map f outputs) call call budget
-          (equal-lengths G H file inputs registers outputs (map f inputs) (map f registers) (map f outputs) (sym (length-map inputs f))
-          (sym (length-map registers f)) (sym (length-map outputs f)) (begins call))
+module _ {A : Type 0} (P : A → Type 0) (k : Call A) (c : Closed (k .gates) P) where
+  kept-from : AllLent P k → (q : Program) → Kept (k .gates) P (from k q)
+  kept-from a q = by (k .entry) a
+    where
+      zero : A
+      zero = k .gates .zeros
+
+      by : (e : Entry) → onEntry e (Unit {0}) (λ position. All (k .gates) P (k .registers) × All (k .gates) P (k .outputs)) →
+          Kept (k .gates) P (onEntry e (cleared (k .gates) q) (λ position. lent (k .gates) q (k .registers) (k .outputs)))
+      by start a =
+          record { registers = all-replicate P zero (q .registers) (c .zeros); outputs = all-replicate P zero (q .outputs) (c .zeros) }
+      by (resume position) a =
+          record {
+            registers = all-take P zero (q .registers) (k .registers) (c .zeros) (a .0);
+            outputs = all-take P zero (q .outputs) (k .outputs) (c .zeros) (a .1);
+          }
+
+  module _ (p : All (k .gates) P (k .inputs)) (a : AllLent P k) where
+    call-kept : (budget : ℕ) (e : Ended A) → callOn k budget ≡ gives e → Kept (k .gates) P (e .state)
+    call-kept budget e q =
+        let r = call-ran k budget e q in
+        let x : Code = r .0 in
+        rw (← r .2) (run-kept (k .gates) P c (k .inputs) p (x .instructions) (begins k) budget (from k (x .program)) (kept-from a (x .program)))
+
+    -- ---- and a map with a call
+    module _ {B : Type 0} (H : Gates B) (f : A → B) (m : Commutes (k .gates) H P f) where
+      abbrev pub mapCall : Call B
+      mapCall =
+          record {
+            gates = H;
+            file = k .file;
+            inputs = map f (k .inputs);
+            registers = map f (k .registers);
+            outputs = map f (k .outputs);
+            entry = k .entry;
+          }
+
+      map-from : (q : Program) → mapState f (from k q) ≡ from mapCall q
+      map-from q = by (k .entry)
+        where
+          by : (e : Entry) → mapState f (onEntry e (cleared (k .gates) q) (λ position. lent (k .gates) q (k .registers) (k .outputs))) ≡
+              onEntry e (cleared H q) (λ position. lent H q (map f (k .registers)) (map f (k .outputs)))
+          by start = rw (map-replicate f (q .registers) (k .gates .zeros), map-replicate f (q .outputs) (k .gates .zeros), m .zeros)
+          by (resume position) = rw (map-take f (q .registers) (k .registers), map-take f (q .outputs) (k .outputs))
+
+      pub call-map : (budget : ℕ) → mapped (mapEnded f) (callOn k budget) ≡ callOn mapCall budget
+      call-map budget =
+          calls-agree k mapCall budget
+          (equal-lengths (k .gates) H (k .file) (k .inputs) (k .registers) (k .outputs) (map f (k .inputs)) (map f (k .registers))
+          (map f (k .outputs)) (sym (length-map (k .inputs) f)) (sym (length-map (k .registers) f)) (sym (length-map (k .outputs) f)) (begins k))
           (mapEnded f) (λ e. e)
-          (λ x w. run-map (x .instructions) (begins call) budget (from G registers outputs call (x .program))
-          (kept-from file registers outputs call (x .program) a) ∙ rw (map-from call (x .program))) ∙
-          mapped-id (callOn H file (map f inputs) (map f registers) (map f outputs) call budget)
+          (λ x w. run-map (k .gates) P c (k .inputs) p H f m (x .instructions) (begins k) budget (from k (x .program))
+          (kept-from a (x .program)) ∙ rw (map-from (x .program))) ∙
+          mapped-id (callOn mapCall budget)
 
-      pub start-map : (budget : ℕ) →
-          mapped (mapEnded f) (startOn G file inputs registers outputs budget) ≡
-          startOn H file (map f inputs) (map f registers) (map f outputs) budget
-      start-map budget = call-map start budget tt
+-- ---- starts and resumes
+module _ {A : Type 0} (G : Gates A) (P : A → Type 0) (c : Closed G P) (inputs : List A) (p : All G P inputs) where
+  module _ (file : List ℕ) (registers outputs : List A) where
+    pub start-kept : (budget : ℕ) (e : Ended A) → startOn G file inputs registers outputs budget ≡ gives e → Kept G P (e .state)
+    start-kept = call-kept P (starting G file inputs registers outputs) c p tt
 
-      pub resume-map : (position budget : ℕ) → All G P registers → All G P outputs →
-          mapped (mapEnded f) (resumeOn G file inputs registers outputs position budget) ≡
-          resumeOn H file (map f inputs) (map f registers) (map f outputs) position budget
-      resume-map position budget a b = call-map (resume position) budget (a, b)
+    pub resume-kept : (position budget : ℕ) (e : Ended A) → All G P registers → All G P outputs →
+        resumeOn G file inputs registers outputs position budget ≡ gives e → Kept G P (e .state)
+    resume-kept position budget e a b = call-kept P (resuming G file inputs registers outputs position) c p (a, b) budget e
 
 -- ---- the lane law
 pub words-closed : Closed wordGates word
@@ -211,14 +222,16 @@ module _ (j : ℕ) (h : j < 64) where
     pub lane-start : (file registers outputs : List ℕ) (budget : ℕ) →
         mapped (mapEnded (lane j)) (startOf file inputs registers outputs budget) ≡
         startOn bitGates file (map (lane j) inputs) (map (lane j) registers) (map (lane j) outputs) budget
-    lane-start = start-map wordGates word words-closed inputs p bitGates (lane j) (lane-commutes j h)
+    lane-start file registers outputs =
+        call-map word (starting wordGates file inputs registers outputs) words-closed p tt bitGates (lane j) (lane-commutes j h)
 
     -- and with a resume
     pub lane-resume : (file registers outputs : List ℕ) (position budget : ℕ) → ((i : ℕ) → getD registers i 0 < 2 ^ 64) →
         ((i : ℕ) → getD outputs i 0 < 2 ^ 64) →
         mapped (mapEnded (lane j)) (resumeOf file inputs registers outputs position budget) ≡
         resumeOn bitGates file (map (lane j) inputs) (map (lane j) registers) (map (lane j) outputs) position budget
-    lane-resume = resume-map wordGates word words-closed inputs p bitGates (lane j) (lane-commutes j h)
+    lane-resume file registers outputs position budget a b =
+        call-map word (resuming wordGates file inputs registers outputs position) words-closed p (a, b) bitGates (lane j) (lane-commutes j h) budget
 
   -- so bit j of every register and output after a start depends on bit j of the inputs alone
   pub lane-start-alone : (file inputs inputs′ registers registers′ outputs outputs′ : List ℕ) (budget : ℕ) →

@@ -12,7 +12,8 @@ use Rattle.programs.specs.declared.description.Instruction.{Instruction}
 use Rattle.machine.specs.Meaning.{Gates, State}
 use Rattle.machine.specs.Checks.{Code, checkOf}
 use Rattle.machine.specs.Runs.{Ended, steps, runAnswer, runOf, startOn, resumeOn}
-use Rattle.machine.specs.Calls.{Enough, Call, start, resume, begins, from, admitted, callOn, call-ran, both-enough, equal-lengths, calls-agree}
+use Rattle.machine.specs.Calls.{Enough, Call, starting, resuming, callOn, begins, from, admits, call-ran}
+use Rattle.machine.specs.Calls.{both-enough, equal-lengths, calls-agree}
 use Rattle.machine.specs.Encoding.{accepted-sound}
 use Rattle.machine.specs.declared.runs.Run.{Run}
 
@@ -44,62 +45,67 @@ answer-obeys position budget count h =
     }
 
 -- ---- when a run stops
-module _ {A : Type 0} (G : Gates A) (file : List ℕ) (inputs registers outputs : List A) (c : Code) (ok : checkOf file ≡ gives c) where
-  call-obeys : (call : Call) (budget : ℕ) (e : Ended A) → callOn G file inputs registers outputs call budget ≡ gives e →
-      Obeys (begins call) budget (c .program .count) (e .answer)
-  call-obeys call budget e q =
-      let r = call-ran G file inputs registers outputs call budget e q in
-      obeys (r .0) (gives-inj (sym (r .1 .accepted) ∙ ok)) (r .1 .before-end) e (r .2)
-    where
-      obeys : (d : Code) → d ≡ c → begins call ≤ length (d .instructions) → (e : Ended A) →
-          runOf G (d .instructions) inputs (begins call) budget (from G registers outputs call (d .program)) ≡ e →
-          Obeys (begins call) budget (c .program .count) (e .answer)
-      obeys d same before e q =
-          let here : begins call ≤ length (c .instructions) = rw same at before in
-          rw (← q, run-answer G (d .instructions) inputs (begins call) budget _, same, accepted-sound file c ok .counted)
-          (answer-obeys (begins call) budget (length (c .instructions)) here)
+call-obeys : {A : Type 0} (k : Call A) (c : Code) → checkOf (k .file) ≡ gives c → (budget : ℕ) (e : Ended A) → callOn k budget ≡ gives e →
+    Obeys (begins k) budget (c .program .count) (e .answer)
+call-obeys {A} k c ok budget e q =
+    let r = call-ran k budget e q in
+    obeys (r .0) (gives-inj (sym (r .1 .accepted) ∙ ok)) (r .1 .before-end) e (r .2)
+  where
+    obeys : (d : Code) → d ≡ c → begins k ≤ length (d .instructions) → (e : Ended A) →
+        runOf (k .gates) (d .instructions) (k .inputs) (begins k) budget (from k (d .program)) ≡ e →
+        Obeys (begins k) budget (c .program .count) (e .answer)
+    obeys d same before e q =
+        let here : begins k ≤ length (c .instructions) = rw same at before in
+        rw (← q, run-answer (k .gates) (d .instructions) (k .inputs) (begins k) budget _, same, accepted-sound (k .file) c ok .counted)
+        (answer-obeys (begins k) budget (length (c .instructions)) here)
 
+module _ {A : Type 0} (G : Gates A) (file : List ℕ) (inputs registers outputs : List A) (c : Code) (ok : checkOf file ≡ gives c) where
   pub start-obeys : (budget : ℕ) (e : Ended A) → startOn G file inputs registers outputs budget ≡ gives e →
       Obeys 0 budget (c .program .count) (e .answer)
-  start-obeys = call-obeys start
+  start-obeys = call-obeys (starting G file inputs registers outputs) c ok
 
   pub resume-obeys : (position budget : ℕ) (e : Ended A) → resumeOn G file inputs registers outputs position budget ≡ gives e →
       Obeys position budget (c .program .count) (e .answer)
-  resume-obeys position = call-obeys (resume position)
+  resume-obeys position = call-obeys (resuming G file inputs registers outputs position) c ok
 
 -- ---- the words play no part
+call-numbers : {A B : Type 0} (k : Call A) (k′ : Call B) → begins k ≡ begins k′ → admits k ≡ admits k′ → (budget : ℕ) →
+    mapped (λ e. e .answer) (callOn k budget) ≡ mapped (λ e. e .answer) (callOn k′ budget)
+call-numbers k k′ here same budget =
+    calls-agree k k′ budget same (λ e. e .answer) (λ e. e .answer)
+    (λ c w. run-answer (k .gates) (c .instructions) (k .inputs) (begins k) budget (from k (c .program)) ∙
+    (rw here (sym (run-answer (k′ .gates) (c .instructions) (k′ .inputs) (begins k′) budget (from k′ (c .program))))))
+
 module _ {A B : Type 0} (G : Gates A) (H : Gates B) (file : List ℕ) (inputs registers outputs : List A)
     (inputs′ registers′ outputs′ : List B) where
-  call-numbers : (call : Call) → ((position : ℕ) →
-      admitted G file inputs registers outputs position ≡ admitted H file inputs′ registers′ outputs′ position) → (budget : ℕ) →
-      mapped (λ e. e .answer) (callOn G file inputs registers outputs call budget) ≡
-      mapped (λ e. e .answer) (callOn H file inputs′ registers′ outputs′ call budget)
-  call-numbers call same budget =
-      calls-agree G H file inputs registers outputs inputs′ registers′ outputs′ call call budget (same (begins call)) (λ e. e .answer) (λ e. e .answer)
-      (λ c w. run-answer G (c .instructions) inputs (begins call) budget (from G registers outputs call (c .program)) ∙
-      sym (run-answer H (c .instructions) inputs′ (begins call) budget (from H registers′ outputs′ call (c .program))))
-
   -- two lists each of inputs, registers and outputs, all long enough: the same answer
   module _ (enough : Enough file inputs registers outputs) (enough′ : Enough file inputs′ registers′ outputs′) where
     pub start-alike : (budget : ℕ) →
         mapped (λ e. e .answer) (startOn G file inputs registers outputs budget) ≡
         mapped (λ e. e .answer) (startOn H file inputs′ registers′ outputs′ budget)
-    start-alike = call-numbers start (both-enough G H file inputs registers outputs inputs′ registers′ outputs′ enough enough′)
+    start-alike =
+        call-numbers (starting G file inputs registers outputs) (starting H file inputs′ registers′ outputs′) refl
+        (both-enough G H file inputs registers outputs inputs′ registers′ outputs′ enough enough′ 0)
 
     pub resume-alike : (position budget : ℕ) →
         mapped (λ e. e .answer) (resumeOn G file inputs registers outputs position budget) ≡
         mapped (λ e. e .answer) (resumeOn H file inputs′ registers′ outputs′ position budget)
     resume-alike position =
-        call-numbers (resume position) (both-enough G H file inputs registers outputs inputs′ registers′ outputs′ enough enough′)
+        call-numbers (resuming G file inputs registers outputs position) (resuming H file inputs′ registers′ outputs′ position) refl
+        (both-enough G H file inputs registers outputs inputs′ registers′ outputs′ enough enough′ position)
 
   -- and of equal lengths, long enough or not
   module _ (i : length inputs ≡ length inputs′) (r : length registers ≡ length registers′) (o : length outputs ≡ length outputs′) where
     pub start-same : (budget : ℕ) →
         mapped (λ e. e .answer) (startOn G file inputs registers outputs budget) ≡
         mapped (λ e. e .answer) (startOn H file inputs′ registers′ outputs′ budget)
-    start-same = call-numbers start (equal-lengths G H file inputs registers outputs inputs′ registers′ outputs′ i r o)
+    start-same =
+        call-numbers (starting G file inputs registers outputs) (starting H file inputs′ registers′ outputs′) refl
+        (equal-lengths G H file inputs registers outputs inputs′ registers′ outputs′ i r o 0)
 
     pub resume-same : (position budget : ℕ) →
         mapped (λ e. e .answer) (resumeOn G file inputs registers outputs position budget) ≡
         mapped (λ e. e .answer) (resumeOn H file inputs′ registers′ outputs′ position budget)
-    resume-same position = call-numbers (resume position) (equal-lengths G H file inputs registers outputs inputs′ registers′ outputs′ i r o)
+    resume-same position =
+        call-numbers (resuming G file inputs registers outputs position) (resuming H file inputs′ registers′ outputs′ position) refl
+        (equal-lengths G H file inputs registers outputs inputs′ registers′ outputs′ i r o position)

@@ -17,8 +17,8 @@ use Rattle.programs.specs.declared.description.Instruction.{Instruction}
 use Rattle.machine.specs.Meaning.{Gates, State, exec, exec-append}
 use Rattle.machine.specs.Checks.{Code, checkOf}
 use Rattle.machine.specs.Runs.{Ended, steps, carried, runAnswer, runOf, startOn, resumeOn}
-use Rattle.machine.specs.Calls.{Room, Sized, Call, start, resume, begins, Runnable, cleared, lent, admitted, from, callRun, callOn}
-use Rattle.machine.specs.Calls.{room-gives, admitted-says, call-part, call-gives, call-ran, sized-from, sized-run}
+use Rattle.machine.specs.Calls.{Room, Sized, Call, starting, resuming, cleared, lent, callOn, begins, from, admits, MayRun, callRun}
+use Rattle.machine.specs.Calls.{room-gives, admits-says, call-part, call-gives, call-ran, sized-from, sized-run}
 use Rattle.machine.specs.Encoding.{accepted-sound}
 use Rattle.machine.specs.declared.runs.Run.{Run}
 
@@ -70,14 +70,11 @@ pub record Holds {A : Type 0} (s : State A) (registers outputs : List A) : Type 
   pub in-outputs : take (length (s .outputs)) outputs ≡ s .outputs
 
 module _ {A : Type 0} (G : Gates A) (file : List ℕ) (inputs : List A) where
-  abbrev pub called : List A → List A → Call → ℕ → Outcome (After A)
-  called registers outputs call budget = mapped (leaves registers outputs) (callOn G file inputs registers outputs call budget)
-
   abbrev pub started : List A → List A → ℕ → Outcome (After A)
-  started registers outputs budget = called registers outputs start budget
+  started registers outputs budget = mapped (leaves registers outputs) (startOn G file inputs registers outputs budget)
 
   abbrev pub resumed : List A → List A → ℕ → ℕ → Outcome (After A)
-  resumed registers outputs position budget = called registers outputs (resume position) budget
+  resumed registers outputs position budget = mapped (leaves registers outputs) (resumeOn G file inputs registers outputs position budget)
 
   -- a resume at the position and on the registers and outputs that a call left, the two taken as one call
   abbrev pub again : After A → ℕ → Outcome (After A)
@@ -189,7 +186,7 @@ module _ {A : Type 0} (G : Gates A) (file : List ℕ) (inputs : List A) where
       (position budget : ℕ) → Sized (c .program) s → Holds s registers outputs → position ≤ length (c .instructions) →
       resumeOn G file inputs registers outputs position budget ≡ gives (runOf G (c .instructions) inputs position budget s)
   resume-held c ok i s registers outputs position budget z h l =
-      call-gives G file inputs registers outputs (resume position) budget c
+      call-gives (resuming G file inputs registers outputs position) budget c
       (record { accepted = ok; before-end = l; room = room-held (c .program) s inputs registers outputs i z h }) ∙
       rw (← z .of-registers, ← z .of-outputs, h .in-registers, h .in-outputs)
 
@@ -211,87 +208,84 @@ module _ {A : Type 0} (G : Gates A) (file : List ℕ) (inputs : List A) where
         )
 
 -- ---- any call
-module _ {A : Type 0} (G : Gates A) (file : List ℕ) (inputs registers outputs : List A) (call : Call) where
+module _ {A : Type 0} (k : Call A) where
+  -- what the caller holds after it
+  abbrev called : ℕ → Outcome (After A)
+  called budget = mapped (leaves (k .registers) (k .outputs)) (callOn k budget)
+
   -- with a budget for all its instructions an accepted program is carried out whole
-  call-whole : begins call ≡ 0 → (budget : ℕ) (c : Code) → checkOf file ≡ gives c → Room (c .program) inputs registers outputs →
-      c .program .count ≤ budget →
-      callOn G file inputs registers outputs call budget ≡ gives (wholeRun G c inputs budget (from G registers outputs call (c .program)))
+  call-whole : begins k ≡ 0 → (budget : ℕ) (c : Code) → checkOf (k .file) ≡ gives c →
+      Room (c .program) (k .inputs) (k .registers) (k .outputs) → c .program .count ≤ budget →
+      callOn k budget ≡ gives (wholeRun (k .gates) c (k .inputs) budget (from k (c .program)))
   call-whole first budget c ok room enough =
-      call-gives G file inputs registers outputs call budget c (record { accepted = ok; before-end = omega arith; room = room }) ∙
-      rw first (ap gives (all (from G registers outputs call (c .program))))
+      call-gives k budget c (record { accepted = ok; before-end = omega arith; room = room }) ∙
+      rw first (ap gives (all (from k (c .program))))
     where
-      all : (s : State A) → runOf G (c .instructions) inputs 0 budget s ≡ wholeRun G c inputs budget s
+      all : (s : State A) → runOf (k .gates) (c .instructions) (k .inputs) 0 budget s ≡ wholeRun (k .gates) c (k .inputs) budget s
       all s =
-          let n : c .program .count ≡ length (c .instructions) = accepted-sound file c ok .counted in
-          rw n (run-whole G (c .instructions) inputs budget s (omega arith))
+          let n : c .program .count ≡ length (c .instructions) = accepted-sound (k .file) c ok .counted in
+          rw n (run-whole (k .gates) (c .instructions) (k .inputs) budget s (omega arith))
 
   -- the run of a call, and that of a resume on what it left
-  module _ (a b : ℕ) (c : Code) (w : Runnable file inputs registers outputs (begins call) c) where
+  module _ (a b : ℕ) (c : Code) (w : MayRun k c) where
     abbrev first : Ended A
-    first = callRun G registers outputs inputs call a c
+    first = callRun k a c
 
     abbrev second : Ended A
-    second = runOf G (c .instructions) inputs (first .answer .position) b (first .state)
+    second = runOf (k .gates) (c .instructions) (k .inputs) (first .answer .position) b (first .state)
 
-    one-run : continued first second ≡ callRun G registers outputs inputs call (together a b) c
+    one-run : continued first second ≡ callRun k (together a b) c
     one-run =
-        run-continued G (c .instructions) inputs (few-instructions file c (w .accepted)) (begins call) a b
-        (from G registers outputs call (c .program))
+        run-continued (k .gates) (c .instructions) (k .inputs) (few-instructions (k .file) c (w .accepted)) (begins k) a b (from k (c .program))
 
     sized-first : Sized (c .program) (first .state)
     sized-first =
-        sized-run G (c .program) (c .instructions) inputs (begins call) a (from G registers outputs call (c .program))
-        (sized-from G (c .program) inputs registers outputs (w .room) call)
+        sized-run (k .gates) (c .program) (c .instructions) (k .inputs) (begins k) a (from k (c .program))
+        (sized-from k (c .program) (w .room))
 
     sized-second : Sized (c .program) (second .state)
-    sized-second = sized-run G (c .program) (c .instructions) inputs (first .answer .position) b (first .state) sized-first
+    sized-second = sized-run (k .gates) (c .program) (c .instructions) (k .inputs) (first .answer .position) b (first .state) sized-first
 
     runs-on : (registers′ outputs′ : List A) → Holds (first .state) registers′ outputs′ →
-        resumeOn G file inputs registers′ outputs′ (first .answer .position) b ≡ gives second
+        resumeOn (k .gates) (k .file) (k .inputs) registers′ outputs′ (first .answer .position) b ≡ gives second
     runs-on registers′ outputs′ held =
-        resume-held G file inputs c (w .accepted) (w .room .for-inputs) (first .state) registers′ outputs′ (first .answer .position) b sized-first held
-        (run-before-end G (c .instructions) inputs (begins call) a (from G registers outputs call (c .program)) (w .before-end))
+        resume-held (k .gates) (k .file) (k .inputs) c (w .accepted) (w .room .for-inputs) (first .state) registers′ outputs′
+        (first .answer .position) b sized-first held
+        (run-before-end (k .gates) (c .instructions) (k .inputs) (begins k) a (from k (c .program)) (w .before-end))
 
     -- on any buffers that hold what the call left
     goes-on : (e : Ended A) → first ≡ e → (registers′ outputs′ : List A) → Holds (e .state) registers′ outputs′ →
-        goneOn G file inputs registers′ outputs′ b e ≡ callOn G file inputs registers outputs call (together a b)
+        goneOn (k .gates) (k .file) (k .inputs) registers′ outputs′ b e ≡ callOn k (together a b)
     goes-on e q registers′ outputs′ held =
-        rw (← q, call-gives G file inputs registers outputs call (together a b) c w, runs-on registers′ outputs′ (rw (← q) at held))
-        (ap gives one-run)
+        rw (← q, call-gives k (together a b) c w, runs-on registers′ outputs′ (rw (← q) at held)) (ap gives one-run)
 
     -- and on the buffers of the call itself
-    left-again : again G file inputs (leaves registers outputs first) b ≡
-        gives (leaves registers outputs (callRun G registers outputs inputs call (together a b) c))
+    left-again : again (k .gates) (k .file) (k .inputs) (leaves (k .registers) (k .outputs) first) b ≡
+        gives (leaves (k .registers) (k .outputs) (callRun k (together a b) c))
     left-again =
         let x = sized-first in
         let y = sized-second in
+        let s = first .state in
         rw (
-          runs-on (lay (first .state .registers) registers) (lay (first .state .outputs) outputs) (holds-laid (first .state) registers outputs),
+          runs-on (lay (s .registers) (k .registers)) (lay (s .outputs) (k .outputs)) (holds-laid s (k .registers) (k .outputs)),
           ← one-run,
-          lay-again (first .state .registers) (second .state .registers) registers (x .of-registers ∙ sym (y .of-registers)),
-          lay-again (first .state .outputs) (second .state .outputs) outputs (x .of-outputs ∙ sym (y .of-outputs)),
+          lay-again (s .registers) (second .state .registers) (k .registers) (x .of-registers ∙ sym (y .of-registers)),
+          lay-again (s .outputs) (second .state .outputs) (k .outputs) (x .of-outputs ∙ sym (y .of-outputs)),
         )
 
   -- a call that gave e, resumed on any buffers that hold the registers and outputs that it left, comes to what one on both budgets together
   -- comes to: it ends there, with those registers and outputs, and the counts add up to its count
-  call-continued : (registers′ outputs′ : List A) (a b : ℕ) (e : Ended A) → callOn G file inputs registers outputs call a ≡ gives e →
-      Holds (e .state) registers′ outputs′ →
-      goneOn G file inputs registers′ outputs′ b e ≡ callOn G file inputs registers outputs call (together a b)
+  call-continued : (registers′ outputs′ : List A) (a b : ℕ) (e : Ended A) → callOn k a ≡ gives e → Holds (e .state) registers′ outputs′ →
+      goneOn (k .gates) (k .file) (k .inputs) registers′ outputs′ b e ≡ callOn k (together a b)
   call-continued registers′ outputs′ a b e q held =
-      let r = call-ran G file inputs registers outputs call a e q in
+      let r = call-ran k a e q in
       goes-on a b (r .0) (r .1) e (r .2) registers′ outputs′ held
 
   -- the same of all that the caller holds after the two calls, and of refusals
-  call-again : (a b : ℕ) →
-      (called G file inputs registers outputs call a >>= (λ l. again G file inputs l b)) ≡
-      called G file inputs registers outputs call (together a b)
+  call-again : (a b : ℕ) → (called a >>= (λ l. again (k .gates) (k .file) (k .inputs) l b)) ≡ called (together a b)
   call-again a b =
-      rw (
-        call-part G file inputs registers outputs call a (leaves registers outputs),
-        call-part G file inputs registers outputs call (together a b) (leaves registers outputs),
-      )
-      (bind-mapped _ _ (λ l. again G file inputs l b) (admitted G file inputs registers outputs (begins call))
-      (λ c q. left-again a b c (admitted-says G file inputs registers outputs (begins call) c q)))
+      rw (call-part k a (leaves (k .registers) (k .outputs)), call-part k (together a b) (leaves (k .registers) (k .outputs)))
+      (bind-mapped _ _ (λ l. again (k .gates) (k .file) (k .inputs) l b) (admits k) (λ c q. left-again a b c (admits-says k c q)))
 
   -- ---- any number of stops
   together-none : (b : ℕ) → b < 2 ^ 32 → together b 0 ≡ b
@@ -302,17 +296,16 @@ module _ {A : Type 0} (G : Gates A) (file : List ℕ) (inputs registers outputs 
 
   -- a call and any number of resumes, each as the call before left it, end as one call on all budgets together
   call-onward : (b : ℕ) (bs : List ℕ) → b < 2 ^ 32 →
-      (called G file inputs registers outputs call b >>= (λ l. onward G file inputs l bs)) ≡
-      called G file inputs registers outputs call (together b (allBudgets bs))
+      (called b >>= (λ l. onward (k .gates) (k .file) (k .inputs) l bs)) ≡ called (together b (allBudgets bs))
   unfolding onward allBudgets
-  call-onward b [] h = rw (together-none b h) (bind-gives (called G file inputs registers outputs call b))
+  call-onward b [] h = rw (together-none b h) (bind-gives (called b))
   call-onward b (x ∷ xs) h =
-      bind-after (called G file inputs registers outputs call b) (λ l. again G file inputs l x) (λ m. onward G file inputs m xs) _ (λ l. refl) ∙
+      bind-after (called b) (λ l. again (k .gates) (k .file) (k .inputs) l x) (λ m. onward (k .gates) (k .file) (k .inputs) m xs) _ (λ l. refl) ∙
       rw (call-again b x, ← together-all b x (allBudgets xs)) (call-onward (together b x) xs (omega arith))
 
   -- the same with what each call left put back elsewhere: what a call and a chain of resumes come to is what one call comes to
-  call-chain : (b : ℕ) (bs : List ℕ) (e f : Ended A) → b < 2 ^ 32 → callOn G file inputs registers outputs call b ≡ gives e →
-      Chain G file inputs e bs f → callOn G file inputs registers outputs call (together b (allBudgets bs)) ≡ gives f
+  call-chain : (b : ℕ) (bs : List ℕ) (e f : Ended A) → b < 2 ^ 32 → callOn k b ≡ gives e → Chain (k .gates) (k .file) (k .inputs) e bs f →
+      callOn k (together b (allBudgets bs)) ≡ gives f
   unfolding allBudgets
   call-chain b [] e f h q here = rw (together-none b h) q
   call-chain b (x ∷ xs) e f h q (next registers′ outputs′ m held g c) =
@@ -324,49 +317,40 @@ module _ {A : Type 0} (G : Gates A) (file : List ℕ) (inputs registers outputs 
   module _ (budget : ℕ) (c : Code) (ok : checkOf file ≡ gives c) (room : Room (c .program) inputs registers outputs)
       (enough : c .program .count ≤ budget) where
     pub start-whole : startOn G file inputs registers outputs budget ≡ gives (wholeRun G c inputs budget (cleared G (c .program)))
-    start-whole = call-whole G file inputs registers outputs start refl budget c ok room enough
+    start-whole = call-whole (starting G file inputs registers outputs) refl budget c ok room enough
 
     pub resume-whole : resumeOn G file inputs registers outputs 0 budget ≡
         gives (wholeRun G c inputs budget (lent G (c .program) registers outputs))
-    resume-whole = call-whole G file inputs registers outputs (resume 0) refl budget c ok room enough
+    resume-whole = call-whole (resuming G file inputs registers outputs 0) refl budget c ok room enough
 
   module _ (registers′ outputs′ : List A) where
     pub start-continued : (a b : ℕ) (e : Ended A) → startOn G file inputs registers outputs a ≡ gives e →
         Holds (e .state) registers′ outputs′ → goneOn G file inputs registers′ outputs′ b e ≡ startOn G file inputs registers outputs (together a b)
-    start-continued = call-continued G file inputs registers outputs start registers′ outputs′
+    start-continued = call-continued (starting G file inputs registers outputs) registers′ outputs′
 
     pub resume-continued : (position a b : ℕ) (e : Ended A) → resumeOn G file inputs registers outputs position a ≡ gives e →
         Holds (e .state) registers′ outputs′ →
         goneOn G file inputs registers′ outputs′ b e ≡ resumeOn G file inputs registers outputs position (together a b)
-    resume-continued position = call-continued G file inputs registers outputs (resume position) registers′ outputs′
-
-  pub start-again : (a b : ℕ) →
-      (started G file inputs registers outputs a >>= (λ l. again G file inputs l b)) ≡ started G file inputs registers outputs (together a b)
-  start-again = call-again G file inputs registers outputs start
-
-  pub resume-again : (position a b : ℕ) →
-      (resumed G file inputs registers outputs position a >>= (λ l. again G file inputs l b)) ≡
-      resumed G file inputs registers outputs position (together a b)
-  resume-again position = call-again G file inputs registers outputs (resume position)
+    resume-continued position = call-continued (resuming G file inputs registers outputs position) registers′ outputs′
 
   pub start-onward : (b : ℕ) (bs : List ℕ) → b < 2 ^ 32 →
       (started G file inputs registers outputs b >>= (λ l. onward G file inputs l bs)) ≡
       started G file inputs registers outputs (together b (allBudgets bs))
-  start-onward = call-onward G file inputs registers outputs start
+  start-onward = call-onward (starting G file inputs registers outputs)
 
   pub resume-onward : (position b : ℕ) (bs : List ℕ) → b < 2 ^ 32 →
       (resumed G file inputs registers outputs position b >>= (λ l. onward G file inputs l bs)) ≡
       resumed G file inputs registers outputs position (together b (allBudgets bs))
-  resume-onward position = call-onward G file inputs registers outputs (resume position)
+  resume-onward position = call-onward (resuming G file inputs registers outputs position)
 
   pub start-chain : (b : ℕ) (bs : List ℕ) (e f : Ended A) → b < 2 ^ 32 → startOn G file inputs registers outputs b ≡ gives e →
       Chain G file inputs e bs f → startOn G file inputs registers outputs (together b (allBudgets bs)) ≡ gives f
-  start-chain = call-chain G file inputs registers outputs start
+  start-chain = call-chain (starting G file inputs registers outputs)
 
   pub resume-chain : (position b : ℕ) (bs : List ℕ) (e f : Ended A) → b < 2 ^ 32 →
       resumeOn G file inputs registers outputs position b ≡ gives e → Chain G file inputs e bs f →
       resumeOn G file inputs registers outputs position (together b (allBudgets bs)) ≡ gives f
-  resume-chain position = call-chain G file inputs registers outputs (resume position)
+  resume-chain position = call-chain (resuming G file inputs registers outputs position)
 
   -- so with budgets for all instructions, in however many calls, an accepted program is carried out whole
   pub onward-whole : (b : ℕ) (bs : List ℕ) (c : Code) → checkOf file ≡ gives c → Room (c .program) inputs registers outputs → b < 2 ^ 32 →

@@ -8,8 +8,8 @@ use mathlib.Core.Logic.{_⊎_, inl, inr, ⊎-elim}
 use native.Mathlib.Omega.{arith}
 use borrow.Author.Tests.{le-ltb, eqb-true, eqb-false}
 use lib.Dec.{eqb}
-use lib.ListN.{length, getD, set, take, drop}
-use lib.Seq.{ext-getD, getD-take, getD-set-same, getD-set-other, length-take-le, take-all}
+use lib.ListN.{length, getD, set, drop}
+use lib.Seq.{ext-getD, getD-set-same, getD-set-other}
 use Rattle.laws.specs.Outcome.{gives, gives-inj, mapped}
 use Rattle.laws.specs.Each.{Each, each-take, each-drop, each-more}
 use Rattle.programs.specs.Instructions.{uses}
@@ -19,16 +19,11 @@ use Rattle.programs.specs.declared.description.Instruction.the-variants.{Ones, 
 use Rattle.machine.specs.Meaning.{Gates, State, step, exec, step-long, exec-long}
 use Rattle.machine.specs.Checks.{Code, checkOf}
 use Rattle.machine.specs.Runs.{Ended, steps, carried, runOf, startOn, resumeOn}
-use Rattle.machine.specs.Calls.{Room, Enough, Sized, Call, start, resume, begins, Runnable, cleared, lent, admitted, from, callOn}
+use Rattle.machine.specs.Calls.{Room, Enough, Sized, Call, starting, resuming, cleared, lent, admitted, callOn, begins, from, admits}
 use Rattle.machine.specs.Calls.{sized-cleared, sized-lent, equal-lengths, both-enough, calls-equal}
 use Rattle.machine.specs.Accepting.{OneOf, Fits, Ready, Sets, none, Sound}
 use Rattle.machine.specs.Encoding.{accepted-sound}
 use Rattle.machine.specs.Resuming.{Holds, together, goneOn, start-whole, resume-whole, start-continued, resume-continued}
-
--- as many words as the header says, or more
-pub record Wide {A : Type 0} (p : Program) (s : State A) : Type 0 where
-  pub registers : p .registers ≤ length (s .registers)
-  pub outputs : p .outputs ≤ length (s .outputs)
 
 -- each input that the instruction takes is one of K
 abbrev pub Takes : (ℕ → Type 0) → Instruction → Type 0
@@ -38,7 +33,7 @@ Takes K i = Each K (uses i .takes)
 module _ {A : Type 0} (G : Gates A) (file : List ℕ) (inputs registers outputs registers′ outputs′ : List A) (budget : ℕ) where
   start-blind : admitted G file inputs registers outputs 0 ≡ admitted G file inputs registers′ outputs′ 0 →
       startOn G file inputs registers outputs budget ≡ startOn G file inputs registers′ outputs′ budget
-  start-blind e = calls-equal G file inputs registers outputs inputs registers′ outputs′ start budget e (λ c w. refl)
+  start-blind e = calls-equal (starting G file inputs registers outputs) (starting G file inputs registers′ outputs′) budget e (λ c w. refl)
 
   -- the answer, and the registers and outputs after it, whether it stops or finishes
   pub start-forgets : length registers ≡ length registers′ → length outputs ≡ length outputs′ →
@@ -85,23 +80,23 @@ module _ {A : Type 0} (G : Gates A) (p : Program) where
       at false q (inr z) = getD-set-other xs to r x d (eqb-false r to q) ∙ (k r z ∙ sym (getD-set-other ys to r y d (eqb-false r to q)))
 
   module _ (inputs : List A) where
-    wide-step : (i : Instruction) (s : State A) → Wide p s → Wide p (step G inputs i s)
-    wide-step i s w =
+    sized-step : (i : Instruction) (s : State A) → Sized p s → Sized p (step G inputs i s)
+    sized-step i s w =
         let l = step-long G inputs i s in
-        record { registers = omega (arith, l .0, w .registers); outputs = omega (arith, l .1, w .outputs) }
+        record { of-registers = l .0 ∙ w .of-registers; of-outputs = l .1 ∙ w .of-outputs }
 
-    into-agree : (W O : ℕ → Type 0) (s t : State A) (to : ℕ) (x y : A) → to < p .registers → Wide p s → Wide p t → x ≡ y → Agree W O s t →
+    into-agree : (W O : ℕ → Type 0) (s t : State A) (to : ℕ) (x y : A) → to < p .registers → Sized p s → Sized p t → x ≡ y → Agree W O s t →
         Agree (λ r. OneOf (to ∷ []) r ⊎ W r) (λ o. OneOf [] o ⊎ O o) (record { registers = set (s .registers) to x; outputs = s .outputs })
         (record { registers = set (t .registers) to y; outputs = t .outputs })
     into-agree W O s t to x y l w v e g =
         record {
           registers =
-              set-agree W (s .registers) (t .registers) to x y (G .zeros) (omega (arith, w .registers)) (omega (arith, v .registers)) e
+              set-agree W (s .registers) (t .registers) to x y (G .zeros) (omega (arith, w .of-registers)) (omega (arith, v .of-registers)) e
               (g .registers);
           outputs = λ o q. ⊎-elim (λ (z : ⊥). absurd z) (λ (z : O o). g .outputs o z) q;
         }
 
-    step-agree : (W O : ℕ → Type 0) (i : Instruction) (s t : State A) → Fits p i → Each W (uses i .reads) → Wide p s → Wide p t →
+    step-agree : (W O : ℕ → Type 0) (i : Instruction) (s t : State A) → Fits p i → Each W (uses i .reads) → Sized p s → Sized p t →
         Agree W O s t →
         Agree (λ r. OneOf (uses i .writes) r ⊎ W r) (λ o. OneOf (uses i .sets) o ⊎ O o) (step G inputs i s) (step G inputs i t)
     step-agree W O (Ones to) s t f e w v g = into-agree W O s t to _ _ (f .0 .0) w v refl g
@@ -116,49 +111,33 @@ module _ {A : Type 0} (G : Gates A) (p : Program) where
         record {
           registers = λ r q. ⊎-elim (λ (z : ⊥). absurd z) (λ (z : W r). g .registers r z) q;
           outputs =
-              set-agree O (s .outputs) (t .outputs) o _ _ (G .zeros) (omega (arith, w .outputs, f .3 .0)) (omega (arith, v .outputs, f .3 .0))
+              set-agree O (s .outputs) (t .outputs) o _ _ (G .zeros) (omega (arith, w .of-outputs, f .3 .0)) (omega (arith, v .of-outputs, f .3 .0))
               (g .registers a (e .0)) (g .outputs);
         }
 
-    exec-agree : (is : List Instruction) (W O : ℕ → Type 0) (s t : State A) → Each (Fits p) is → Ready W is none → Wide p s → Wide p t →
+    exec-agree : (is : List Instruction) (W O : ℕ → Type 0) (s t : State A) → Each (Fits p) is → Ready W is none → Sized p s → Sized p t →
         Agree W O s t → (o : ℕ) → Sets o is ⊎ O o →
         getD (exec G inputs is s .outputs) o (G .zeros) ≡ getD (exec G inputs is t .outputs) o (G .zeros)
     unfolding exec
     exec-agree [] W O s t f e w v g o q = ⊎-elim (λ (z : ⊥). absurd z) (λ (z : O o). g .outputs o z) q
     exec-agree (i ∷ is) W O s t f e w v g o q =
         exec-agree is (λ r. OneOf (uses i .writes) r ⊎ W r) (λ o. OneOf (uses i .sets) o ⊎ O o) (step G inputs i s) (step G inputs i t) (f .1)
-        (e .1) (wide-step i s w) (wide-step i t v) (step-agree W O i s t (f .0) (e .0) w v g) o (turned q)
+        (e .1) (sized-step i s w) (sized-step i t v) (step-agree W O i s t (f .0) (e .0) w v g) o (turned q)
       where
         turned : (OneOf (uses i .sets) o ⊎ Sets o is) ⊎ O o → Sets o is ⊎ (OneOf (uses i .sets) o ⊎ O o)
         turned (inl (inl z)) = inr (inl z)
         turned (inl (inr z)) = inl z
         turned (inr z) = inr (inr z)
 
-    -- from any two states with words enough, a sound program's instructions leave the same outputs
-    pub exec-forgets : (is : List Instruction) → Sound p is → (s t : State A) → Wide p s → Wide p t →
-        take (p .outputs) (exec G inputs is s .outputs) ≡ take (p .outputs) (exec G inputs is t .outputs)
-    exec-forgets is sound s t w v =
-        let x : List A = exec G inputs is s .outputs in
-        let y : List A = exec G inputs is t .outputs in
-        let lx : length (take (p .outputs) x) ≡ p .outputs = length-take-le (p .outputs) x (omega (arith, exec-long G inputs is s .1, w .outputs)) in
-        let ly : length (take (p .outputs) y) ≡ p .outputs = length-take-le (p .outputs) y (omega (arith, exec-long G inputs is t .1, v .outputs)) in
-        ext-getD (G .zeros) (take (p .outputs) x) (take (p .outputs) y) (lx ∙ sym ly)
-        (λ o l. let k : o < p .outputs = omega (arith, lx, l) in
-        getD-take (p .outputs) x o (G .zeros) k ∙
-        (exec-agree is none none s t (sound .in-range) (sound .written) w v (record { registers = λ r z. absurd z; outputs = λ o z. absurd z }) o
-        (inl (sound .all-set o k)) ∙
-        sym (getD-take (p .outputs) y o (G .zeros) k)))
-
-    sized-forgets : (is : List Instruction) → Sound p is → (s t : State A) → Sized p s → Sized p t →
+    -- from any two states of as many words as the header says, a sound program's instructions leave the same outputs
+    exec-forgets : (is : List Instruction) → Sound p is → (s t : State A) → Sized p s → Sized p t →
         exec G inputs is s .outputs ≡ exec G inputs is t .outputs
-    sized-forgets is sound s t y z =
-        let a : length (exec G inputs is s .outputs) ≤ p .outputs = omega (arith, exec-long G inputs is s .1, y .of-outputs) in
-        let b : length (exec G inputs is t .outputs) ≤ p .outputs = omega (arith, exec-long G inputs is t .1, z .of-outputs) in
-        rw (take-all (p .outputs) (exec G inputs is s .outputs) a, take-all (p .outputs) (exec G inputs is t .outputs) b) at
-        (exec-forgets is sound s t (wide s y) (wide t z))
-      where
-        wide : (u : State A) → Sized p u → Wide p u
-        wide u x = record { registers = omega (arith, x .of-registers); outputs = omega (arith, x .of-outputs) }
+    exec-forgets is sound s t w v =
+        let ls : length (exec G inputs is s .outputs) ≡ p .outputs = exec-long G inputs is s .1 ∙ w .of-outputs in
+        let lt : length (exec G inputs is t .outputs) ≡ p .outputs = exec-long G inputs is t .1 ∙ v .of-outputs in
+        ext-getD (G .zeros) (exec G inputs is s .outputs) (exec G inputs is t .outputs) (ls ∙ sym lt)
+        (λ o l. exec-agree is none none s t (sound .in-range) (sound .written) w v
+        (record { registers = λ r z. absurd z; outputs = λ o z. absurd z }) o (inl (sound .all-set o (omega (arith, ls, l)))))
 
 -- ---- the same of starts and resumes of an accepted file
 module _ {A : Type 0} (G : Gates A) (file : List ℕ) (c : Code) (ok : checkOf file ≡ gives c) where
@@ -168,26 +147,26 @@ module _ {A : Type 0} (G : Gates A) (file : List ℕ) (c : Code) (ok : checkOf f
     unfolding admitted
     enough-inputs position = rw (ok, le-ltb (length inputs) (c .program .inputs) l, le-ltb (length inputs′) (c .program .inputs) l′)
 
-    run-waits : (position budget : ℕ) (s : State A) → Each (Takes K) (carried budget position (c .instructions)) →
-        runOf G (c .instructions) inputs position budget s ≡ runOf G (c .instructions) inputs′ position budget s
+    run-waits : (d : Code) → checkOf file ≡ gives d → (position budget : ℕ) (s : Program → State A) →
+        Each (Takes K) (carried budget position (c .instructions)) →
+        runOf G (d .instructions) inputs position budget (s (d .program)) ≡ runOf G (d .instructions) inputs′ position budget (s (d .program))
     unfolding runOf
-    run-waits position budget s b = rw (exec-inputs G inputs inputs′ K same (carried budget position (c .instructions)) s b)
+    run-waits d q position budget s b =
+        let same-code : d ≡ c = gives-inj (sym q ∙ ok) in
+        rw (same-code, exec-inputs G inputs inputs′ K same (carried budget position (c .instructions)) (s (c .program)) b)
 
-    -- a call whose instructions take inputs of K alone comes to the same whatever the other words are
-    call-waits : (call : Call) (budget : ℕ) → Each (Takes K) (carried budget (begins call) (c .instructions)) →
-        callOn G file inputs registers outputs call budget ≡ callOn G file inputs′ registers outputs call budget
-    call-waits call budget b =
-        calls-equal G file inputs registers outputs inputs′ registers outputs call budget (enough-inputs (begins call))
-        (λ d w. let e : d ≡ c = gives-inj (sym (w .accepted) ∙ ok) in
-        rw e (run-waits (begins call) budget (from G registers outputs call (c .program)) b))
-
-    pub start-waits : (budget : ℕ) → Each (Takes K) (carried budget 0 (c .instructions)) →
+    -- a start, and a resume, whose instructions take inputs of K alone come to the same whatever the other words are
+    start-waits : (budget : ℕ) → Each (Takes K) (carried budget 0 (c .instructions)) →
         startOn G file inputs registers outputs budget ≡ startOn G file inputs′ registers outputs budget
-    start-waits = call-waits start
+    start-waits budget b =
+        calls-equal (starting G file inputs registers outputs) (starting G file inputs′ registers outputs) budget (enough-inputs 0)
+        (λ d w. run-waits d (w .accepted) 0 budget (cleared G) b)
 
-    pub resume-waits : (position budget : ℕ) → Each (Takes K) (carried budget position (c .instructions)) →
+    resume-waits : (position budget : ℕ) → Each (Takes K) (carried budget position (c .instructions)) →
         resumeOn G file inputs registers outputs position budget ≡ resumeOn G file inputs′ registers outputs position budget
-    resume-waits position = call-waits (resume position)
+    resume-waits position budget b =
+        calls-equal (resuming G file inputs registers outputs position) (resuming G file inputs′ registers outputs position) budget
+        (enough-inputs position) (λ d w. run-waits d (w .accepted) position budget (λ p. lent G p registers outputs) b)
 
     -- so where a start took words of K alone, a resume on what it left, with any other words filled in, comes to what one start on the
     -- words as they are then comes to
@@ -234,5 +213,5 @@ module _ {A : Type 0} (G : Gates A) (file : List ℕ) (c : Code) (ok : checkOf f
       mapped (λ e. e .state .outputs) (startOn G file inputs registers′ outputs′ budget)
   whole-outputs inputs registers outputs registers′ outputs′ budget r q h =
       rw (resume-whole G file inputs registers outputs budget c ok r h, start-whole G file inputs registers′ outputs′ budget c ok q h)
-      (ap gives (sized-forgets G (c .program) inputs (c .instructions) (accepted-sound file c ok) (lent G (c .program) registers outputs)
+      (ap gives (exec-forgets G (c .program) inputs (c .instructions) (accepted-sound file c ok) (lent G (c .program) registers outputs)
       (cleared G (c .program)) (sized-lent G (c .program) inputs registers outputs r) (sized-cleared G (c .program))))
