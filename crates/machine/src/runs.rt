@@ -65,7 +65,8 @@ fn prepare(words: &mut [u64], fresh: bool)
     }
 }
 
-// A run of an accepted program from a position on, afresh or with registers and outputs as they are: as many of its instructions as are left and the budget allows.
+// A run of an accepted program from a position on, afresh or with registers and outputs as they are: as many of its instructions as are left
+// and the budget allows.
 fn carry_on(
     file: &[u8],
     count: u32,
@@ -76,8 +77,16 @@ fn carry_on(
     position: u32,
     budget: u32,
 ) -> Run
-    requires { ⌜ Formed count (length (now registers)) (length (now inputs)) (length (now outputs)) (drop header-length (now file)) × (position ≤ count) ⌝ }
-    ensures { λ r. ⌜ Ends (now (file .entry)) count (now (inputs .entry)) (prepared fresh (now (registers .entry))) (prepared fresh (now (outputs .entry))) position budget r (now (registers .exit)) (now (outputs .exit)) ⌝ }
+    requires { ⌜ (
+        Formed count (length (now registers)) (length (now inputs)) (length (now outputs)) (drop header-length (now file)) ×
+        (position ≤ count)
+        ) ⌝ }
+    ensures { λ r. ⌜ (
+        let file = now (file .entry) in
+        let inputs = now (inputs .entry) in
+        let before = prepared fresh (now (registers .entry)) in
+        Ends file count inputs before (prepared fresh (now (outputs .entry))) position budget r (now (registers .exit)) (now (outputs .exit))
+        ) ⌝ }
 {
     prepare(registers, fresh);
     prepare(outputs, fresh);
@@ -108,9 +117,12 @@ pub fn start(
     outputs: &mut [u64],
     budget: u32,
 ) -> Ran
-    ensures { λ r. ⌜ ran r ≡ mapped (λ x. x .answer) (startOf (now (program .entry)) (now (inputs .entry)) (now (registers .entry)) (now (outputs .entry)) budget) ⌝ }
-    ensures { λ r. ⌜ now (registers .exit) ≡ lay (laid (λ x. x .state .registers) (startOf (now (program .entry)) (now (inputs .entry)) (now (registers .entry)) (now (outputs .entry)) budget)) (now (registers .entry)) ⌝ }
-    ensures { λ r. ⌜ now (outputs .exit) ≡ lay (laid (λ x. x .state .outputs) (startOf (now (program .entry)) (now (inputs .entry)) (now (registers .entry)) (now (outputs .entry)) budget)) (now (outputs .entry)) ⌝ }
+    ensures { λ r. ⌜ (
+        let o = startOf (now (program .entry)) (now (inputs .entry)) (now (registers .entry)) (now (outputs .entry)) budget in
+        (ran r ≡ mapped (λ x. x .answer) o) ×
+        ((now (registers .exit) ≡ lay (laid (λ x. x .state .registers) o) (now (registers .entry))) ×
+        (now (outputs .exit) ≡ lay (laid (λ x. x .state .outputs) o) (now (outputs .entry))))
+        ) ⌝ }
 {
     match check(program) {
         Checked::Refused(why) => Ran::Refused(why),
@@ -144,9 +156,12 @@ pub fn resume(
     position: u32,
     budget: u32,
 ) -> Ran
-    ensures { λ r. ⌜ ran r ≡ mapped (λ x. x .answer) (resumeOf (now (program .entry)) (now (inputs .entry)) (now (registers .entry)) (now (outputs .entry)) position budget) ⌝ }
-    ensures { λ r. ⌜ now (registers .exit) ≡ lay (laid (λ x. x .state .registers) (resumeOf (now (program .entry)) (now (inputs .entry)) (now (registers .entry)) (now (outputs .entry)) position budget)) (now (registers .entry)) ⌝ }
-    ensures { λ r. ⌜ now (outputs .exit) ≡ lay (laid (λ x. x .state .outputs) (resumeOf (now (program .entry)) (now (inputs .entry)) (now (registers .entry)) (now (outputs .entry)) position budget)) (now (outputs .entry)) ⌝ }
+    ensures { λ r. ⌜ (
+        let o = resumeOf (now (program .entry)) (now (inputs .entry)) (now (registers .entry)) (now (outputs .entry)) position budget in
+        (ran r ≡ mapped (λ x. x .answer) o) ×
+        ((now (registers .exit) ≡ lay (laid (λ x. x .state .registers) o) (now (registers .entry))) ×
+        (now (outputs .exit) ≡ lay (laid (λ x. x .state .outputs) o) (now (outputs .entry))))
+        ) ⌝ }
 {
     match check(program) {
         Checked::Refused(why) => Ran::Refused(why),

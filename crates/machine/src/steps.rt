@@ -20,7 +20,10 @@ pub(crate) fn field_at(file: &[u8], at: usize) -> usize
 // The 32-bit number at `at`, in bytes that hold it.
 pub(crate) fn wide_at(file: &[u8], at: usize) -> usize
     requires { ⌜ at + 4 ≤ length (now file) ⌝ }
-    ensures { λ r. ⌜ (r ≡ fieldOf (now (file .entry)) at + 65536 * fieldOf (now (file .entry)) (at + 2)) × (fieldOf (now (file .entry)) at < 65536) ⌝ }
+    ensures { λ r. ⌜ (
+        let file = now (file .entry) in
+        (r ≡ fieldOf file at + 65536 * fieldOf file (at + 2)) × (fieldOf file at < 65536)
+        ) ⌝ }
 {
     field_at(file, at) + 65536 * field_at(file, at + 2)
 }
@@ -62,7 +65,10 @@ fn step_at(
     outputs: &mut [u64],
 ) -> usize
     requires { ⌜ Ready (now file) at (length (now registers)) (length (now inputs)) (length (now outputs)) ⌝ }
-    ensures { λ r. ⌜ Does (now (file .entry)) at (now (inputs .entry)) (now (registers .entry)) (now (outputs .entry)) r (now (registers .exit)) (now (outputs .exit)) ⌝ }
+    ensures { λ r. ⌜ (
+        Does (now (file .entry)) at (now (inputs .entry)) (now (registers .entry)) (now (outputs .entry)) r (now (registers .exit))
+        (now (outputs .exit))
+        ) ⌝ }
 {
     let kind = field_at(file, at + 2);
     if kind == Instruction::KIND_AND {
@@ -211,7 +217,10 @@ pub(crate) fn run_from(
     outputs: &mut [u64],
 )
     requires { ⌜ Formed steps (length (now registers)) (length (now inputs)) (length (now outputs)) (drop from (now file)) ⌝ }
-    ensures { λ _. ⌜ RunLeaves (now (file .entry)) from steps (now (inputs .entry)) (now (registers .entry)) (now (outputs .entry)) (now (registers .exit)) (now (outputs .exit)) ⌝ }
+    ensures { λ _. ⌜ (
+        RunLeaves (now (file .entry)) from steps (now (inputs .entry)) (now (registers .entry)) (now (outputs .entry))
+        (now (registers .exit)) (now (outputs .exit))
+        ) ⌝ }
 {
     let mut more = steps;
     let mut at = from;
