@@ -13,7 +13,7 @@ module _ {A B : Type 0} where
   mapped-same f g (gives a) e = ap gives (e a refl)
 
   -- what goes on from a result of f to one of g
-  pub bind-mapped : {C : Type 0} (f : A → B) (g : A → C) (k : B → Outcome C) (o : Outcome A) → ((a : A) → o ≡ gives a → k (f a) ≡ gives (g a)) →
-      (mapped f o >>= k) ≡ mapped g o
+  pub bind-mapped : {C : Type 0} (f : A → B) (g : A → C) (k : B → Outcome C) (o : Outcome A) →
+      ((a : A) → o ≡ gives a → k (f a) ≡ gives (g a)) → (mapped f o >>= k) ≡ mapped g o
   bind-mapped f g k (refused n) e = refl
   bind-mapped f g k (gives a) e = e a refl

@@ -11,13 +11,13 @@ use lib.Seq.{length-take-le}
 use Rattle.laws.specs.Tests.{neither}
 use Rattle.laws.specs.Sums.{any}
 use Rattle.laws.specs.Lay.{lay, lay-nothing}
-use Rattle.laws.specs.Outcome.{Outcome, refused, gives, refuse, _>>_, _>>=_, passed, bound, gives-inj, mapped, laid, mapped-gives}
+use Rattle.laws.specs.Outcome.{Outcome, refused, gives, refuse, _>>_, passed, bound, gives-inj, mapped, laid, mapped-gives}
 use Rattle.laws.specs.Outcome.{mapped-refused}
 use Rattle.programs.specs.Instructions.{uses, lengthOf}
 use Rattle.programs.specs.Header.{header-length}
 use Rattle.programs.specs.declared.description.Program.{Program}
 use Rattle.programs.specs.declared.description.Instruction.{Instruction}
-use Rattle.machine.specs.Meaning.{wordGates, State}
+use Rattle.machine.specs.Meaning.{wordGates}
 use Rattle.machine.specs.Checks.{Code, also, instructionOf, codeOf, nothing, checkOf}
 use Rattle.machine.specs.Runs.{Ended, runOf, roomFor}
 use Rattle.machine.specs.Calls.{Room, Sized, Entry, start, resume, onEntry, Call, callOn, begins, from, admits, call-is, call-gives}
@@ -47,7 +47,8 @@ pub record Accepted (file : List ℕ) (p : Program) : Type 0 where
 
 -- whether a buffer is too short
 abbrev pub lacking : Program → List ℕ → List ℕ → List ℕ → Bool
-lacking p inputs registers outputs = ltb (length inputs) (p .inputs) || ltb (length registers) (p .registers) || ltb (length outputs) (p .outputs)
+lacking p inputs registers outputs =
+    ltb (length inputs) (p .inputs) || ltb (length registers) (p .registers) || ltb (length outputs) (p .outputs)
 
 -- what is known of a call before its run
 pub record Fits (k : Call ℕ) (p : Program) : Type 0 where
@@ -56,8 +57,10 @@ pub record Fits (k : Call ℕ) (p : Program) : Type 0 where
   pub room : Room p (k .inputs) (k .registers) (k .outputs)
 
 -- ---- an accepted program stands in its bytes
-code-stands : (p : Program) (n : ℕ) (written set : ℕ → Bool) (bytes : List ℕ) (is : List Instruction) → codeOf n p written set bytes ≡ gives is →
-    ((inputs registers outputs : List ℕ) → Room p inputs registers outputs → Formed n (length registers) (length inputs) (length outputs) bytes) ×
+code-stands : (p : Program) (n : ℕ) (written set : ℕ → Bool) (bytes : List ℕ) (is : List Instruction) →
+    codeOf n p written set bytes ≡ gives is →
+    ((inputs registers outputs : List ℕ) → Room p inputs registers outputs →
+    Formed n (length registers) (length inputs) (length outputs) bytes) ×
     ((readOf n bytes ≡ is) × (length is ≡ n))
 unfolding codeOf Formed readOf
 code-stands p zero written set bytes is e =
@@ -71,8 +74,10 @@ code-stands p (suc n) written set bytes is e =
     let m = instruction-means p written bytes i (c1 .1) in
     let h = code-stands p n (also written (uses i .writes)) (also set (uses i .sets)) (drop (lengthOf i) bytes) (c2 .0) (c2 .1) in
     let all : i ∷ c2 .0 ≡ is = gives-inj (c2 .2) in (
-      λ inputs registers outputs r. rw (m .0)
-          (range-wider _ _ _ _ _ _ i (r .for-registers) (r .for-inputs) (r .for-outputs) (range-means p i (m .1)), h .0 inputs registers outputs r),
+      λ inputs registers outputs r. rw (m .0) (
+        range-wider _ _ _ _ _ _ i (r .for-registers) (r .for-inputs) (r .for-outputs) (range-means p i (m .1)),
+        h .0 inputs registers outputs r,
+      ),
       (rw (m .0) (ap (λ (js : List Instruction). i ∷ js) (h .1 .0) ∙ all), ap length (sym all) ∙ ap suc (h .1 .1)),
     )
 
@@ -98,7 +103,8 @@ room-is k p =
 pub room-means : (p : Program) (inputs registers outputs : List ℕ) (b : Bool) → b ≡ lacking p inputs registers outputs → b ≡ false →
     Room p inputs registers outputs
 room-means p inputs registers outputs b e q =
-    let s = neither (ltb (length inputs) (p .inputs) || ltb (length registers) (p .registers)) (ltb (length outputs) (p .outputs)) (sym e ∙ q) in
+    let s =
+    neither (ltb (length inputs) (p .inputs) || ltb (length registers) (p .registers)) (ltb (length outputs) (p .outputs)) (sym e ∙ q) in
     let t = neither (ltb (length inputs) (p .inputs)) (ltb (length registers) (p .registers)) (s .0) in
     record {
       for-inputs = ltb-false (length inputs) (p .inputs) (t .0);
@@ -143,7 +149,7 @@ run-is : (file : List ℕ) (p : Program) (a : Accepted file p) (inputs rs os : L
     Ends file (p .count) inputs rs os position budget r rs′ os′ →
     runOf wordGates (a .code .instructions) inputs position budget (state rs os) ≡ record { answer = r; state = state rs′ os′ }
 unfolding runOf
-run-is file p a inputs rs os position budget r rs′ os′ d = rw (d .answer, d .registers, d .outputs, a .reads, ← a .counted)
+run-is file p a inputs rs os position budget r rs′ os′ d = rw (d .answer, d .left, a .reads, ← a .counted)
 
 -- whether a call clears what is lent
 abbrev pub clears : Call ℕ → Bool

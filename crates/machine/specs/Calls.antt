@@ -1,7 +1,7 @@
 -- 01, "Runs, words, samples": a start and a resume as one thing, a run of the program that its file holds, from a state and a position on.
 -- Assumes nothing.
 use Prim.Native.Nat.{ℕ, _≤_}
-use mathlib.Core.Path.{_≡_, refl, sym, ap, _∙_}
+use mathlib.Core.Path.{_≡_, refl, sym, _∙_}
 use mathlib.Core.List.{List}
 use native.Mathlib.Omega.{arith}
 use borrow.Author.Tests.{le-ltb, ltb-false}
@@ -170,7 +170,8 @@ module _ {A : Type 0} (G : Gates A) where
     start-is budget =
         let run : Code → Ended A = callRun (starting G file inputs registers outputs) budget in
         mapped-bind (checkOf file) _ _ run
-        (λ c. rw (le-ltb (length (c .instructions)) 0 (omega arith)) (mapped-then (roomFor G (c .program) inputs registers outputs) _ _ run refl))
+        (λ c. rw (le-ltb (length (c .instructions)) 0 (omega arith))
+        (mapped-then (roomFor G (c .program) inputs registers outputs) _ _ run refl))
 
     pub resume-is : (position budget : ℕ) → resumeOn G file inputs registers outputs position budget ≡
         mapped (callRun (resuming G file inputs registers outputs position) budget) (admitted G file inputs registers outputs position)

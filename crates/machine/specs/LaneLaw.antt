@@ -1,5 +1,5 @@
--- 01, "Runs, words, samples": each lane of a run by itself. A map of words that commutes with the gates commutes with a run, and taking one bit
--- of each word is such a map. Assumes nothing.
+-- 01, "Runs, words, samples": each lane of a run by itself. A map of words that commutes with the gates commutes with a run, and taking one
+-- bit of each word is such a map. Assumes nothing.
 use Prim.Native.Nat.{ℕ, _^_, _<_}
 use mathlib.Core.Path.{_≡_, refl, sym, ap, ap₂, _∙_}
 use mathlib.Core.List.{List, [], _∷_, map}
@@ -79,7 +79,8 @@ module _ {A : Type 0} (G : Gates A) (P : A → Type 0) (c : Closed G P) (inputs 
   exec-kept [] s k = k
   exec-kept (i ∷ is) s k = exec-kept is (step G inputs i s) (step-kept i s k)
 
-  run-kept : (is : List Instruction) (position budget : ℕ) (s : State A) → Kept G P s → Kept G P (runOf G is inputs position budget s .state)
+  run-kept : (is : List Instruction) (position budget : ℕ) (s : State A) → Kept G P s →
+      Kept G P (runOf G is inputs position budget s .state)
   unfolding runOf
   run-kept is position budget s k = exec-kept (carried budget position is) s k
 
@@ -145,7 +146,8 @@ module _ {A : Type 0} (P : A → Type 0) (k : Call A) (c : Closed (k .gates) P) 
     call-kept budget e q =
         let r = call-ran k budget e q in
         let x : Code = r .0 in
-        rw (← r .2) (run-kept (k .gates) P c (k .inputs) p (x .instructions) (begins k) budget (from k (x .program)) (kept-from a (x .program)))
+        rw (← r .2)
+        (run-kept (k .gates) P c (k .inputs) p (x .instructions) (begins k) budget (from k (x .program)) (kept-from a (x .program)))
 
     -- ---- and a map with a call
     module _ {B : Type 0} (H : Gates B) (f : A → B) (m : Commutes (k .gates) H P f) where
@@ -172,7 +174,8 @@ module _ {A : Type 0} (P : A → Type 0) (k : Call A) (c : Closed (k .gates) P) 
       call-map budget =
           calls-agree k mapCall budget
           (equal-lengths (k .gates) H (k .file) (k .inputs) (k .registers) (k .outputs) (map f (k .inputs)) (map f (k .registers))
-          (map f (k .outputs)) (sym (length-map (k .inputs) f)) (sym (length-map (k .registers) f)) (sym (length-map (k .outputs) f)) (begins k))
+          (map f (k .outputs)) (sym (length-map (k .inputs) f)) (sym (length-map (k .registers) f)) (sym (length-map (k .outputs) f))
+          (begins k))
           (mapEnded f) (λ e. e)
           (λ x w. run-map (k .gates) P c (k .inputs) p H f m (x .instructions) (begins k) budget (from k (x .program))
           (kept-from a (x .program)) ∙ rw (map-from (x .program))) ∙
@@ -231,7 +234,8 @@ module _ (j : ℕ) (h : j < 64) where
         mapped (mapEnded (lane j)) (resumeOf file inputs registers outputs position budget) ≡
         resumeOn bitGates file (map (lane j) inputs) (map (lane j) registers) (map (lane j) outputs) position budget
     lane-resume file registers outputs position budget a b =
-        call-map word (resuming wordGates file inputs registers outputs position) words-closed p (a, b) bitGates (lane j) (lane-commutes j h) budget
+        call-map word (resuming wordGates file inputs registers outputs position) words-closed p (a, b) bitGates (lane j)
+        (lane-commutes j h) budget
 
   -- so bit j of every register and output after a start depends on bit j of the inputs alone
   pub lane-start-alone : (file inputs inputs′ registers registers′ outputs outputs′ : List ℕ) (budget : ℕ) →

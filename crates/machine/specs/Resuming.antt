@@ -35,8 +35,8 @@ unfoldable pub allBudgets : List ℕ → ℕ
 allBudgets [] = 0
 allBudgets (b ∷ bs) = b + allBudgets bs
 
--- the answer of a run and that of its resume, as the answer of one run: it ends where the resume ends, and the counts add up. The budget in an
--- answer is that of its own call, so it is both budgets together here
+-- the answer of a run and that of its resume, as the answer of one run: it ends where the resume ends, and the counts add up. The budget in
+-- an answer is that of its own call, so it is both budgets together here
 abbrev pub joined : Run → Run → Run
 joined a b =
     record { finished = b .finished; position = b .position; count = a .count + b .count; budget = together (a .budget) (b .budget) }
@@ -149,7 +149,8 @@ module _ {A : Type 0} (G : Gates A) (is : List Instruction) (inputs : List A) wh
       let all : steps budget 0 (length is) ≡ length is = omega arith in
       rw (all, zero-add (length is), eq-eqb (length is) (length is) refl, take-all (length is) is (omega arith))
 
-  run-before-end : (position budget : ℕ) (s : State A) → position ≤ length is → runOf G is inputs position budget s .answer .position ≤ length is
+  run-before-end : (position budget : ℕ) (s : State A) → position ≤ length is →
+      runOf G is inputs position budget s .answer .position ≤ length is
   unfolding runOf
   run-before-end position budget s h = omega arith
 
@@ -236,7 +237,8 @@ module _ {A : Type 0} (k : Call A) where
 
     one-run : continued first second ≡ callRun k (together a b) c
     one-run =
-        run-continued (k .gates) (c .instructions) (k .inputs) (few-instructions (k .file) c (w .accepted)) (begins k) a b (from k (c .program))
+        run-continued (k .gates) (c .instructions) (k .inputs) (few-instructions (k .file) c (w .accepted)) (begins k) a b
+        (from k (c .program))
 
     sized-first : Sized (c .program) (first .state)
     sized-first =
@@ -300,7 +302,8 @@ module _ {A : Type 0} (k : Call A) where
   unfolding onward allBudgets
   call-onward b [] h = rw (together-none b h) (bind-gives (called b))
   call-onward b (x ∷ xs) h =
-      bind-after (called b) (λ l. again (k .gates) (k .file) (k .inputs) l x) (λ m. onward (k .gates) (k .file) (k .inputs) m xs) _ (λ l. refl) ∙
+      bind-after (called b) (λ l. again (k .gates) (k .file) (k .inputs) l x) (λ m. onward (k .gates) (k .file) (k .inputs) m xs) _
+      (λ l. refl) ∙
       rw (call-again b x, ← together-all b x (allBudgets xs)) (call-onward (together b x) xs (omega arith))
 
   -- the same with what each call left put back elsewhere: what a call and a chain of resumes come to is what one call comes to
@@ -325,7 +328,8 @@ module _ {A : Type 0} (G : Gates A) (file : List ℕ) (inputs registers outputs 
 
   module _ (registers′ outputs′ : List A) where
     pub start-continued : (a b : ℕ) (e : Ended A) → startOn G file inputs registers outputs a ≡ gives e →
-        Holds (e .state) registers′ outputs′ → goneOn G file inputs registers′ outputs′ b e ≡ startOn G file inputs registers outputs (together a b)
+        Holds (e .state) registers′ outputs′ →
+        goneOn G file inputs registers′ outputs′ b e ≡ startOn G file inputs registers outputs (together a b)
     start-continued = call-continued (starting G file inputs registers outputs) registers′ outputs′
 
     pub resume-continued : (position a b : ℕ) (e : Ended A) → resumeOn G file inputs registers outputs position a ≡ gives e →
@@ -358,5 +362,6 @@ module _ {A : Type 0} (G : Gates A) (file : List ℕ) (inputs registers outputs 
       (started G file inputs registers outputs b >>= (λ l. onward G file inputs l bs)) ≡
       gives (leaves registers outputs (wholeRun G c inputs (together b (allBudgets bs)) (cleared G (c .program))))
   onward-whole b bs c ok room h enough =
-      let n : c .program .count ≤ together b (allBudgets bs) = omega (arith, few-instructions file c ok, accepted-sound file c ok .counted) in
+      let n : c .program .count ≤ together b (allBudgets bs) =
+      omega (arith, few-instructions file c ok, accepted-sound file c ok .counted) in
       start-onward b bs h ∙ rw (start-whole (together b (allBudgets bs)) c ok room n)

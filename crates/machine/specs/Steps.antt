@@ -10,7 +10,8 @@ use Rattle.programs.specs.Instructions.{lengthOf, decodeOf}
 use Rattle.programs.specs.declared.description.Instruction.{Instruction}
 use Rattle.programs.specs.declared.description.Instruction.the-variants.{Ones, Zero, Input, Not, And, Or, Output}
 use Rattle.machine.specs.Meaning.{wordGates, State, step}
-use Rattle.machine.specs.Standing.{Stands, Ready, Gate, ready-room, second-room, is-ones, is-zero, is-input, is-not, is-and, is-or, is-output}
+use Rattle.machine.specs.Standing.{Stands, Ready, Gate, ready-room, second-room}
+use Rattle.machine.specs.Standing.{is-ones, is-zero, is-input, is-not, is-and, is-or, is-output}
 
 abbrev pub state : List ℕ → List ℕ → State ℕ
 state rs os = record { registers = rs; outputs = os }

@@ -18,8 +18,8 @@ use Rattle.machine.specs.Runs.{steps, runAnswer}
 use Rattle.machine.specs.declared.runs.Run.{Run}
 use Rattle.machine.specs.Standing.{InRange, onGives, readOf, Formed, formed-less, Known, Standing, Ready, Gate, Four}
 use Rattle.machine.specs.Standing.{read-first, some-ready, ready-room, formed-next}
-use Rattle.machine.specs.Steps.{state, Connective, gateKind, gateWords, gateAt, gate-long, gate-length, gate-step, Does, Found, is-gate}
-use Rattle.machine.specs.Steps.{first-operand}
+use Rattle.machine.specs.Steps.{state, Connective, gateKind, gateWords, gateAt, Does, Found, first-operand}
+use Rattle.machine.specs.Steps.{gate-long, gate-length, gate-step, is-gate}
 
 -- ---- a run under way, by instructions that change registers alone
 pub record Along (file : List ℕ) (n₀ from : ℕ) (rs₀ : List ℕ) (n at : ℕ) (rs : List ℕ) : Type 0 where
@@ -39,7 +39,8 @@ pub record Going (file : List ℕ) (ins rs₀ os₀ : List ℕ) (n₀ from : ℕ
 
 -- one instruction is done
 exec-first : (n : ℕ) (file : List ℕ) (at : ℕ) (i : Instruction) (ins : List ℕ) (s : State ℕ) → decodeOf (drop at file) ≡ gives i →
-    exec wordGates ins (readOf (suc n) (drop at file)) s ≡ exec wordGates ins (readOf n (drop (at + lengthOf i) file)) (step wordGates ins i s)
+    exec wordGates ins (readOf (suc n) (drop at file)) s ≡
+    exec wordGates ins (readOf n (drop (at + lengthOf i) file)) (step wordGates ins i s)
 unfolding exec
 exec-first n file at i ins s e = rw (read-first n (drop at file) i e, drop-drop (lengthOf i) at file)
 
@@ -101,7 +102,8 @@ module _ (g : Connective) {file : List ℕ} {n₀ from : ℕ} {rs₀ : List ℕ}
   gate-at : Gate file at (length rs)
   gate-at = next-gate {g = g} {a = a} (record { some = l; kind = rw e at k })
 
-  gate-passed : (m next : ℕ) → m ≡ n - 1 → next ≡ at + 10 → {rs′ : List ℕ} → rs′ ≡ gateWords g file at rs → Along file n₀ from rs₀ m next rs′
+  gate-passed : (m next : ℕ) → m ≡ n - 1 → next ≡ at + 10 → {rs′ : List ℕ} → rs′ ≡ gateWords g file at rs →
+      Along file n₀ from rs₀ m next rs′
   gate-passed m next p q made = rw (p, q) (gate-done {g = g} {a = a} (record { some = l; kind = rw e at k }) made)
 
 pub four-stand : {file : List ℕ} {n₀ from : ℕ} {rs₀ : List ℕ} {n at : ℕ} {rs : List ℕ} → Along file n₀ from rs₀ n at rs → 3 < n →
@@ -153,7 +155,8 @@ module _ {g : Connective} {file : List ℕ} {n₀ from : ℕ} {rs₀ : List ℕ}
         pub four-done : {r4 : List ℕ} → r4 ≡ gateWords g file (at + 30) r3 → Along file n₀ from rs₀ (n - 4) (at + 40) r4
         four-done e4 =
             let l = t .some in
-            gate-passed g three-done (omega arith) (at + 32) (omega arith) (t .kinds .fourth) (n - 4) (at + 40) (omega arith) (omega arith) e4
+            gate-passed g three-done (omega arith) (at + 32) (omega arith) (t .kinds .fourth) (n - 4) (at + 40) (omega arith)
+            (omega arith) e4
 
   -- and all four have room
   pub four-room : at + 40 ≤ length file
@@ -178,15 +181,15 @@ along-then g h =
 
 -- what a run of n instructions from a byte on leaves
 pub record RunLeaves (file : List ℕ) (from n : ℕ) (ins rs os rs′ os′ : List ℕ) : Type 0 where
-  pub registers : rs′ ≡ (exec wordGates ins (readOf n (drop from file)) (state rs os)) .registers
-  pub outputs : os′ ≡ (exec wordGates ins (readOf n (drop from file)) (state rs os)) .outputs
+  pub left : state rs′ os′ ≡ exec wordGates ins (readOf n (drop from file)) (state rs os)
 
 -- ---- one instruction, then the gates that follow it
 pub going-none : {file : List ℕ} {ins rs₀ os₀ : List ℕ} {n₀ from : ℕ} → Formed n₀ (length rs₀) (length ins) (length os₀) (drop from file) →
     Going file ins rs₀ os₀ n₀ from rs₀ os₀ n₀ from
 going-none f = record { formed = f; same = refl; long = refl; wide = refl }
 
-module _ {file : List ℕ} {ins rs₀ os₀ : List ℕ} {n₀ from : ℕ} {rs os : List ℕ} {n at : ℕ} (g : Going file ins rs₀ os₀ n₀ from rs os n at) where
+module _ {file : List ℕ} {ins rs₀ os₀ : List ℕ} {n₀ from : ℕ} {rs os : List ℕ} {n at : ℕ}
+    (g : Going file ins rs₀ os₀ n₀ from rs os n at) where
   going-suc : (m : ℕ) → n ≡ suc m → (next : ℕ) (rs′ os′ : List ℕ) → Does file at ins rs os next rs′ os′ →
       Going file ins rs₀ os₀ n₀ from rs′ os′ m next
   going-suc m q next rs′ os′ d =
@@ -222,8 +225,7 @@ module _ {file : List ℕ} {ins rs₀ os₀ : List ℕ} {n₀ from : ℕ} {rs os
   unfolding readOf exec
   going-done l =
       let z : n ≡ 0 = omega arith in
-      let e : state rs os ≡ exec wordGates ins (readOf n₀ (drop from file)) (state rs₀ os₀) = rw z at (g .same) in
-      record { registers = ap (λ (s : State ℕ). s .registers) e; outputs = ap (λ (s : State ℕ). s .outputs) e }
+      record { left = rw z at (g .same) }
 
 -- ---- going past instructions
 pub record Past (file : List ℕ) (from n k at : ℕ) : Type 0 where
@@ -263,7 +265,8 @@ module _ (file : List ℕ) (from n : ℕ) where
       past-turn len e =
           rw (e ∙ past-ready .stands .long) (past-suc (n - (k + 1)) (omega arith) refl (past-ready .i) (past-ready .stands .reads))
 
-pub past-done : (file : List ℕ) (from n k position at : ℕ) → k ≤ position → position ≤ k → Past file from n k at → Past file from n position at
+pub past-done : (file : List ℕ) (from n k position at : ℕ) → k ≤ position → position ≤ k → Past file from n k at →
+    Past file from n position at
 past-done file from n k position at a b g =
     let e : k ≡ position = omega arith in
     rw e at g
@@ -272,10 +275,12 @@ past-done file from n k position at a b g =
 -- its answer, and the registers and outputs that it leaves
 pub record Ends (file : List ℕ) (count : ℕ) (ins rs os : List ℕ) (position budget : ℕ) (r : Run) (rs′ os′ : List ℕ) : Type 0 where
   pub answer : r ≡ runAnswer budget position count
-  pub registers : rs′ ≡
-      (exec wordGates ins (take (steps budget position count) (drop position (readOf count (drop header-length file)))) (state rs os)) .registers
-  pub outputs : os′ ≡
-      (exec wordGates ins (take (steps budget position count) (drop position (readOf count (drop header-length file)))) (state rs os)) .outputs
+  pub left : state rs′ os′ ≡
+      exec wordGates ins (take (steps budget position count) (drop position (readOf count (drop header-length file)))) (state rs os)
+
+-- the answer in the code's words, after n instructions
+abbrev came : ℕ → ℕ → ℕ → ℕ → Run
+came count position budget n = record { finished = eqb (position + n) count; position = position + n; count = n; budget = budget }
 
 read-take : (m n nr ni nq : ℕ) (bytes : List ℕ) → m ≤ n → Formed n nr ni nq bytes → readOf m bytes ≡ take m (readOf n bytes)
 unfolding readOf Formed
@@ -285,24 +290,26 @@ read-take (suc m) (suc n) nr ni nq bytes l f =
     by (decodeOf bytes) (λ i g. read-take m n nr ni nq (drop (lengthOf i) bytes) (omega arith) g) f
   where
     by : (o : Outcome Instruction) →
-        ((i : Instruction) → Formed n nr ni nq (drop (lengthOf i) bytes) → readOf m (drop (lengthOf i) bytes) ≡ take m (readOf n (drop (lengthOf i) bytes))) →
+        ((i : Instruction) → Formed n nr ni nq (drop (lengthOf i) bytes) →
+        readOf m (drop (lengthOf i) bytes) ≡ take m (readOf n (drop (lengthOf i) bytes))) →
         onGives o ⊥ (λ i. InRange nr ni nq i × Formed n nr ni nq (drop (lengthOf i) bytes)) →
-        onGives o [] (λ i. i ∷ readOf m (drop (lengthOf i) bytes)) ≡ take (suc m) (onGives o [] (λ i. i ∷ readOf n (drop (lengthOf i) bytes)))
+        onGives o [] (λ i. i ∷ readOf m (drop (lengthOf i) bytes)) ≡
+        take (suc m) (onGives o [] (λ i. i ∷ readOf n (drop (lengthOf i) bytes)))
     by (refused k) h z = absurd z
     by (gives i) h z = ap (λ (is : List Instruction). i ∷ is) (h i (z .1))
 
 module _ (file : List ℕ) (count : ℕ) (ins rs os : List ℕ) (position budget : ℕ)
-    (f : Formed count (length rs) (length ins) (length os) (drop header-length file)) (at : ℕ) (p : Past file header-length count position at) (n : ℕ) (is-n : n ≡ steps budget position count) where
+    (f : Formed count (length rs) (length ins) (length os) (drop header-length file))
+    (at : ℕ) (p : Past file header-length count position at) (n : ℕ) (is-n : n ≡ steps budget position count) where
   left-formed : Formed n (length rs) (length ins) (length os) (drop at file)
   left-formed = formed-less n (count - position) _ _ _ (drop at file) (omega arith) (p .formed _ _ _ f)
 
   ends : (rs′ os′ : List ℕ) → RunLeaves file at n ins rs os rs′ os′ →
-      Ends file count ins rs os position budget
-      (record { finished = eqb (position + n) count; position = position + n; count = n; budget = budget }) rs′ os′
+      Ends file count ins rs os position budget (came count position budget n) rs′ os′
   ends rs′ os′ c =
       let same : readOf n (drop at file) ≡ take (steps budget position count) (drop position (readOf count (drop header-length file))) =
       read-take n (count - position) _ _ _ (drop at file) (omega arith) (p .formed _ _ _ f) ∙ rw (is-n, p .rest) in
-      record { answer = rw is-n; registers = rw same at (c .registers); outputs = rw same at (c .outputs) }
+      record { answer = rw is-n; left = rw same at (c .left) }
 
 -- ---- clearing
 pub record Cleared (i : ℕ) (ws₀ ws : List ℕ) : Type 0 where
@@ -316,7 +323,8 @@ pub cleared-more : (i : ℕ) (ws₀ ws : List ℕ) → i < length ws₀ → Clea
 cleared-more i ws₀ ws h c =
     record {
       long = length-set ws i 0 ∙ c .long;
-      front = rw (add-one i) (take-suc-set ws i 0 (omega (arith, c .long)) ∙ rw (c .front) (replicate-append-replicate i 1 0 ∙ rw (add-one i)));
+      front = rw (add-one i)
+          (take-suc-set ws i 0 (omega (arith, c .long)) ∙ rw (c .front) (replicate-append-replicate i 1 0 ∙ rw (add-one i)));
     }
 
 pub cleared-all : (i : ℕ) (ws₀ ws : List ℕ) → length ws₀ ≤ i → i ≤ length ws₀ → Cleared i ws₀ ws → ws ≡ replicate (length ws₀) 0
@@ -333,9 +341,10 @@ pub prepared-long : (fresh : Bool) (ws ws′ : List ℕ) → ws′ ≡ prepared 
 prepared-long true ws ws′ e = ap length e ∙ length-replicate (length ws) 0
 prepared-long false ws ws′ e = ap length e
 
-module _ (fresh : Bool) (file : List ℕ) (count : ℕ) (ins rs os rs′ os′ : List ℕ) (position budget : ℕ) (e : rs′ ≡ prepared fresh rs) (q : os′ ≡ prepared fresh os)
-    (f : Formed count (length rs) (length ins) (length os) (drop header-length file)) (at : ℕ) (p : Past file header-length count position at) (n : ℕ)
-    (is-n : n ≡ steps budget position count) where
+module _ (fresh : Bool) (file : List ℕ) (count : ℕ) (ins rs os rs′ os′ : List ℕ) (position budget : ℕ)
+    (e : rs′ ≡ prepared fresh rs) (q : os′ ≡ prepared fresh os)
+    (f : Formed count (length rs) (length ins) (length os) (drop header-length file))
+    (at : ℕ) (p : Past file header-length count position at) (n : ℕ) (is-n : n ≡ steps budget position count) where
   prepared-formed : Formed count (length rs′) (length ins) (length os′) (drop header-length file)
   prepared-formed = rw (prepared-long fresh rs rs′ e, prepared-long fresh os os′ q) f
 
@@ -343,12 +352,12 @@ module _ (fresh : Bool) (file : List ℕ) (count : ℕ) (ins rs os rs′ os′ :
   run-formed = left-formed file count ins rs′ os′ position budget prepared-formed at p n is-n
 
   pub run-ends : (rs″ os″ : List ℕ) → RunLeaves file at n ins rs′ os′ rs″ os″ →
-      Ends file count ins (prepared fresh rs) (prepared fresh os) position budget
-      (record { finished = eqb (position + n) count; position = position + n; count = n; budget = budget }) rs″ os″
+      Ends file count ins (prepared fresh rs) (prepared fresh os) position budget (came count position budget n) rs″ os″
   run-ends rs″ os″ c =
-      ends-from (prepared fresh rs) (prepared fresh os) e q (ends file count ins rs′ os′ position budget prepared-formed at p n is-n rs″ os″ c)
+      ends-from (prepared fresh rs) (prepared fresh os) e q
+      (ends file count ins rs′ os′ position budget prepared-formed at p n is-n rs″ os″ c)
     where
       ends-from : (a b : List ℕ) → rs′ ≡ a → os′ ≡ b →
-          Ends file count ins rs′ os′ position budget (record { finished = eqb (position + n) count; position = position + n; count = n; budget = budget }) rs″ os″ →
-          Ends file count ins a b position budget (record { finished = eqb (position + n) count; position = position + n; count = n; budget = budget }) rs″ os″
+          Ends file count ins rs′ os′ position budget (came count position budget n) rs″ os″ →
+          Ends file count ins a b position budget (came count position budget n) rs″ os″
       ends-from a b u v d = rw (u, v) at d

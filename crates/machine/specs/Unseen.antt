@@ -1,5 +1,5 @@
--- 01, "Runs, words, samples": what a run does not see of the words that are lent: what registers and outputs held before a start, and inputs that no
--- instruction takes. Assumes nothing.
+-- 01, "Runs, words, samples": what a run does not see of the words that are lent: what registers and outputs held before a start, and
+-- inputs that no instruction takes. Assumes nothing.
 use Prim.Native.Nat.{ℕ, _≤_, _<_}
 use mathlib.Core.Path.{_≡_, refl, sym, ap, ap₂, _∙_}
 use mathlib.Core.Bool.{Bool, true, false}
@@ -19,7 +19,7 @@ use Rattle.programs.specs.declared.description.Instruction.the-variants.{Ones, 
 use Rattle.machine.specs.Meaning.{Gates, State, step, exec, step-long, exec-long}
 use Rattle.machine.specs.Checks.{Code, checkOf}
 use Rattle.machine.specs.Runs.{Ended, steps, carried, runOf, startOn, resumeOn}
-use Rattle.machine.specs.Calls.{Room, Enough, Sized, Call, starting, resuming, cleared, lent, admitted, callOn, begins, from, admits}
+use Rattle.machine.specs.Calls.{Room, Enough, Sized, starting, resuming, cleared, lent, admitted}
 use Rattle.machine.specs.Calls.{sized-cleared, sized-lent, equal-lengths, both-enough, calls-equal}
 use Rattle.machine.specs.Accepting.{OneOf, Fits, Ready, Sets, none, Sound}
 use Rattle.machine.specs.Encoding.{accepted-sound}
@@ -91,8 +91,8 @@ module _ {A : Type 0} (G : Gates A) (p : Program) where
     into-agree W O s t to x y l w v e g =
         record {
           registers =
-              set-agree W (s .registers) (t .registers) to x y (G .zeros) (omega (arith, w .of-registers)) (omega (arith, v .of-registers)) e
-              (g .registers);
+              set-agree W (s .registers) (t .registers) to x y (G .zeros) (omega (arith, w .of-registers)) (omega (arith, v .of-registers))
+              e (g .registers);
           outputs = λ o q. ⊎-elim (λ (z : ⊥). absurd z) (λ (z : O o). g .outputs o z) q;
         }
 
@@ -111,7 +111,8 @@ module _ {A : Type 0} (G : Gates A) (p : Program) where
         record {
           registers = λ r q. ⊎-elim (λ (z : ⊥). absurd z) (λ (z : W r). g .registers r z) q;
           outputs =
-              set-agree O (s .outputs) (t .outputs) o _ _ (G .zeros) (omega (arith, w .of-outputs, f .3 .0)) (omega (arith, v .of-outputs, f .3 .0))
+              set-agree O (s .outputs) (t .outputs) o _ _ (G .zeros) (omega (arith, w .of-outputs, f .3 .0))
+              (omega (arith, v .of-outputs, f .3 .0))
               (g .registers a (e .0)) (g .outputs);
         }
 
@@ -121,7 +122,8 @@ module _ {A : Type 0} (G : Gates A) (p : Program) where
     unfolding exec
     exec-agree [] W O s t f e w v g o q = ⊎-elim (λ (z : ⊥). absurd z) (λ (z : O o). g .outputs o z) q
     exec-agree (i ∷ is) W O s t f e w v g o q =
-        exec-agree is (λ r. OneOf (uses i .writes) r ⊎ W r) (λ o. OneOf (uses i .sets) o ⊎ O o) (step G inputs i s) (step G inputs i t) (f .1)
+        exec-agree is (λ r. OneOf (uses i .writes) r ⊎ W r) (λ o. OneOf (uses i .sets) o ⊎ O o) (step G inputs i s) (step G inputs i t)
+        (f .1)
         (e .1) (sized-step i s w) (sized-step i t v) (step-agree W O i s t (f .0) (e .0) w v g) o (turned q)
       where
         turned : (OneOf (uses i .sets) o ⊎ Sets o is) ⊎ O o → Sets o is ⊎ (OneOf (uses i .sets) o ⊎ O o)
@@ -149,7 +151,8 @@ module _ {A : Type 0} (G : Gates A) (file : List ℕ) (c : Code) (ok : checkOf f
 
     run-waits : (d : Code) → checkOf file ≡ gives d → (position budget : ℕ) (s : Program → State A) →
         Each (Takes K) (carried budget position (c .instructions)) →
-        runOf G (d .instructions) inputs position budget (s (d .program)) ≡ runOf G (d .instructions) inputs′ position budget (s (d .program))
+        runOf G (d .instructions) inputs position budget (s (d .program)) ≡
+        runOf G (d .instructions) inputs′ position budget (s (d .program))
     unfolding runOf
     run-waits d q position budget s b =
         let same-code : d ≡ c = gives-inj (sym q ∙ ok) in

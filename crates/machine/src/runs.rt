@@ -7,7 +7,6 @@ ghost use lib.ListN.{drop, length, replicate};
 ghost use Rattle.laws.specs.Lay.{lay};
 ghost use Rattle.laws.specs.Outcome.{laid, mapped};
 ghost use Rattle.programs.specs.Header.{header-length};
-ghost use Rattle.machine.specs.Meaning.{wordGates};
 ghost use Rattle.machine.specs.Runs.{ran, resumeOf, startOf};
 ghost use Rattle.machine.specs.Standing.{Formed, Standing};
 ghost use Rattle.machine.specs.Turns.{Ends, Past, prepared};
@@ -65,8 +64,8 @@ fn prepare(words: &mut [u64], fresh: bool)
     }
 }
 
-// A run of an accepted program from a position on, afresh or with registers and outputs as they are: as many of its instructions as are left
-// and the budget allows.
+// A run of an accepted program from a position on, afresh or with registers and outputs as they are: as many of its instructions as are
+// left and the budget allows.
 fn carry_on(
     file: &[u8],
     count: u32,
@@ -82,10 +81,8 @@ fn carry_on(
         (position ≤ count)
         ) ⌝ }
     ensures { λ r. ⌜ (
-        let file = now (file .entry) in
-        let inputs = now (inputs .entry) in
-        let before = prepared fresh (now (registers .entry)) in
-        Ends file count inputs before (prepared fresh (now (outputs .entry))) position budget r (now (registers .exit)) (now (outputs .exit))
+        Ends (now (file .entry)) count (now (inputs .entry)) (prepared fresh (now (registers .entry)))
+        (prepared fresh (now (outputs .entry))) position budget r (now (registers .exit)) (now (outputs .exit))
         ) ⌝ }
 {
     prepare(registers, fresh);

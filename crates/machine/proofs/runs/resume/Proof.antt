@@ -47,7 +47,9 @@ enum-known-p : tie.Need-enum-known-p
 enum-known-p c = search needs
 
 returns : tie.Need-returns
-returns c = let p = c .before .before .before in call-beyond (called p) (entry (p .before .before) .args .budget) _ (checked p) (c .if1 .taken)
+returns c =
+    let p = c .before .before .before in
+    call-beyond (called p) (entry (p .before .before) .args .budget) _ (checked p) (c .if1 .taken)
 
 lacks-requires : tie.Need-lacks-requires
 lacks-requires c κs = search needs
@@ -55,7 +57,8 @@ lacks-requires c κs = search needs
 returns-2 : tie.Need-returns-2
 returns-2 c =
     let p = read (c .before) in
-    call-short (called p) (entry (p .before .before) .args .budget) _ (checked p) (c .before .before .if1 .left) _ (c .before .lacks .ensures) (c .if2 .taken)
+    call-short (called p) (entry (p .before .before) .args .budget) _ (checked p) (c .before .before .if1 .left) _
+    (c .before .lacks .ensures) (c .if2 .taken)
 
 slice-relend-prefix-carry-on : tie.Need-slice-relend-prefix-carry-on
 slice-relend-prefix-carry-on c = fits c .room .for-registers

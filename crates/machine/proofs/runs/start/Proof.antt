@@ -53,7 +53,8 @@ lacks-requires c κs = search needs
 returns : tie.Need-returns
 returns c =
     let p = read (c .before) in
-    call-short (called p) (entry (p .before .before) .args .budget) _ (checked p) (omega arith) _ (c .before .lacks .ensures) (c .if1 .taken)
+    call-short (called p) (entry (p .before .before) .args .budget) _ (checked p) (omega arith) _
+    (c .before .lacks .ensures) (c .if1 .taken)
 
 slice-relend-prefix-carry-on : tie.Need-slice-relend-prefix-carry-on
 slice-relend-prefix-carry-on c = fits c .room .for-registers

@@ -46,7 +46,8 @@ same-length c = search needs
 returns : tie.Need-returns
 returns c =
     let b = c .before .before in
-    gate-made conjunction _ _ _ _ _ _ (b .before .before .field-at .ensures .0) (b .before .field-at2 .ensures .0) (b .field-at3 .ensures .0)
+    let a = b .before in
+    gate-made conjunction _ _ _ _ _ _ (a .before .field-at .ensures .0) (a .field-at2 .ensures .0) (b .field-at3 .ensures .0)
 
 pub and-at-spec : {M : Type 1} → statement M
 and-at-spec =

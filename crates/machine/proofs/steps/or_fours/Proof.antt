@@ -2,7 +2,8 @@
 use borrow.Author.Needs.{needs}
 use native.Mathlib.Omega.{arith}
 use Rattle.machine.specs.Steps.{disjunction}
-use Rattle.machine.specs.Turns.{Along, NextFour, along-none, four-stand, first-gate, second-gate, third-gate, fourth-gate, four-done, four-room}
+use Rattle.machine.specs.Turns.{Along, NextFour, along-none, four-stand, four-room, four-done}
+use Rattle.machine.specs.Turns.{first-gate, second-gate, third-gate, fourth-gate}
 use Rattle.machine.proofs.steps.or_fours.Statement.{statement}
 use Rattle.machine.proofs.steps.or_fours.Tie as tie
 

@@ -31,13 +31,15 @@ sub-and-run c = search needs
 and-run-requires : tie.Need-and-run-requires Inv-loop μ-loop
 and-run-requires c κs =
     let s = c .before .before .before .before .before in
-    going-known (going-step (s .before .before .before .before .loop .inv) (s .before .before .before .loop-test .taken) (s .step-at .ensures))
+    let l = s .before .before .before in
+    going-known (going-step (l .before .loop .inv) (l .loop-test .taken) (s .step-at .ensures))
 
 or-run-requires : tie.Need-or-run-requires Inv-loop μ-loop
 or-run-requires c κs =
     let a = c .before .before .before in
     let s = stepped a in
-    going-known (going-along (going-step (s .before .before .before .before .loop .inv) (s .before .before .before .loop-test .taken) (s .step-at .ensures)) (a .and-run .ensures))
+    let l = s .before .before .before in
+    going-known (going-along (going-step (l .before .loop .inv) (l .loop-test .taken) (s .step-at .ensures)) (a .and-run .ensures))
 
 loop-less : tie.Need-loop-less Inv-loop μ-loop
 loop-less c =
@@ -53,7 +55,10 @@ loop-again c =
     let o = c .before .before in
     let a = anded o in
     let s = stepped a in
-    going-along (going-along (going-step (s .before .before .before .before .loop .inv) (s .before .before .before .loop-test .taken) (s .step-at .ensures)) (a .and-run .ensures)) (o .or-run .ensures)
+    let l = s .before .before .before in
+    going-along
+    (going-along (going-step (l .before .loop .inv) (l .loop-test .taken) (s .step-at .ensures)) (a .and-run .ensures))
+    (o .or-run .ensures)
 
 same-length : tie.Need-same-length Inv-loop μ-loop
 same-length c = c .before .loop .inv .long

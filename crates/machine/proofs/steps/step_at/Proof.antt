@@ -4,7 +4,8 @@ use native.Mathlib.Omega.{arith}
 use lib.ListN.{length}
 use Rattle.machine.specs.Standing.{ready-room}
 use Rattle.machine.specs.Steps.{conjunction, disjunction, Found, Operands, Last, first-operand, second-operand, is-gate, does-gate}
-use Rattle.machine.specs.Steps.{ones-range, zero-range, input-range, not-range, output-range, does-ones, does-zero, does-input, does-not, does-output}
+use Rattle.machine.specs.Steps.{ones-range, zero-range, input-range, not-range, output-range}
+use Rattle.machine.specs.Steps.{does-ones, does-zero, does-input, does-not, does-output}
 use Rattle.machine.proofs.steps.step_at.Statement.{statement}
 use Rattle.machine.proofs.steps.step_at.Tie as tie
 
