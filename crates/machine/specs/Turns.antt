@@ -159,8 +159,8 @@ module _ {g : Connective} {file : List ℕ} {n₀ from : ℕ} {rs₀ : List ℕ}
             (omega arith) e4
 
   -- and all four have room
-  pub four-room : at + 40 ≤ length file
-  four-room =
+  pub gates-room : at + 40 ≤ length file
+  gates-room =
       let r1 = gateWords g file at rs in
       let r2 = gateWords g file (at + 10) r1 in
       let r3 = gateWords g file (at + 20) r2 in

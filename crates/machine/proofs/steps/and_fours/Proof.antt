@@ -2,7 +2,7 @@
 use borrow.Author.Needs.{needs}
 use native.Mathlib.Omega.{arith}
 use Rattle.machine.specs.Steps.{conjunction}
-use Rattle.machine.specs.Turns.{Along, NextFour, along-none, four-stand, four-room, four-done}
+use Rattle.machine.specs.Turns.{Along, NextFour, along-none, four-stand, gates-room, four-done}
 use Rattle.machine.specs.Turns.{first-gate, second-gate, third-gate, fourth-gate}
 use Rattle.machine.proofs.steps.and_fours.Statement.{statement}
 use Rattle.machine.proofs.steps.and_fours.Tie as tie
@@ -37,7 +37,7 @@ and-at-requires : tie.Need-and-at-requires Inv-loop μ-loop
 and-at-requires c κs = first-gate (turn (c .before))
 
 add-and-at : tie.Need-add-and-at Inv-loop μ-loop
-add-and-at c = let h = four-room (turn (c .before .before .before .before)) in omega arith
+add-and-at c = let h = gates-room (turn (c .before .before .before .before)) in omega arith
 
 and-at-requires-2 : tie.Need-and-at-requires-2 Inv-loop μ-loop
 and-at-requires-2 c κs =
@@ -45,7 +45,7 @@ and-at-requires-2 c κs =
     second-gate (turn (a .before .before)) (a .and-at .ensures)
 
 add-and-at-2 : tie.Need-add-and-at-2 Inv-loop μ-loop
-add-and-at-2 c = let h = four-room (turn (first (c .before .before) .before .before)) in omega arith
+add-and-at-2 c = let h = gates-room (turn (first (c .before .before) .before .before)) in omega arith
 
 and-at-requires-3 : tie.Need-and-at-requires-3 Inv-loop μ-loop
 and-at-requires-3 c κs =
@@ -54,7 +54,7 @@ and-at-requires-3 c κs =
     third-gate (turn (a .before .before)) (a .and-at .ensures) (b .and-at2 .ensures)
 
 add-and-at-3 : tie.Need-add-and-at-3 Inv-loop μ-loop
-add-and-at-3 c = let h = four-room (turn (first (second (c .before .before)) .before .before)) in omega arith
+add-and-at-3 c = let h = gates-room (turn (first (second (c .before .before)) .before .before)) in omega arith
 
 and-at-requires-4 : tie.Need-and-at-requires-4 Inv-loop μ-loop
 and-at-requires-4 c κs =
@@ -64,7 +64,7 @@ and-at-requires-4 c κs =
     fourth-gate (turn (a .before .before)) (a .and-at .ensures) (b .and-at2 .ensures) (d .and-at3 .ensures)
 
 add-at : tie.Need-add-at Inv-loop μ-loop
-add-at c = let h = four-room (turn (first (second (third (c .before .before))) .before .before)) in omega arith
+add-at c = let h = gates-room (turn (first (second (third (c .before .before))) .before .before)) in omega arith
 
 sub-more : tie.Need-sub-more Inv-loop μ-loop
 sub-more c = let l = turn (first (second (third (c .before .before))) .before .before) .some in omega arith

@@ -185,7 +185,7 @@ mul-outputs : tie.Need-mul-outputs
 mul-outputs c = let h = output-range (operands (c .before .before)) (last c) in omega arith
 
 slice-read-outputs : tie.Need-slice-read-outputs
-slice-read-outputs c = output-range (operands (c .before .before .before)) (last (c .before)) .1
+slice-read-outputs c = let h = output-range (operands (c .before .before .before)) (last (c .before)) in omega arith
 
 mul-outputs-2 : tie.Need-mul-outputs-2
 mul-outputs-2 c = let h = output-range (operands (c .before .before .before)) (last (c .before)) .0 in omega arith
