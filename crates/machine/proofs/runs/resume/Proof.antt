@@ -1,5 +1,6 @@
 -- `machine::resume` meets its contract: the program is checked, then its parts of what is lent are run as they are. Assumes nothing.
 use borrow.Author.Needs.{needs}
+use native.Mathlib.Omega.{arith}
 use Prim.Native.Nat.{ℕ}
 use mathlib.Core.Path.{_≡_, refl}
 use Rattle.laws.specs.Outcome.{gives, mapped}
@@ -33,7 +34,7 @@ fits : (c : tie.Else2) → Fits (called (read (c .before))) (read (c .before) .p
 fits c =
     record {
       checked = checked (read (c .before));
-      here = c .before .before .if1 .left;
+      here = let h = c .before .before .if1 .left in omega arith;
       room = room-means _ _ _ _ _ (c .before .lacks .ensures) (c .if2 .left);
     }
 
