@@ -11,8 +11,8 @@ use Rattle.laws.specs.Tests.{both}
 use Rattle.files.specs.Matrix.{Matrix, Accepted, bit}
 use Rattle.files.specs.Live.{weight, total-from, live, live-is}
 use Rattle.files.specs.Checks.{total-is}
-use Rattle.compiler.specs.Translation.{liveBefore}
 use Rattle.files.specs.RoundTrip.{accepted-bits}
+use Rattle.compiler.specs.Translation.{liveBefore}
 
 -- what the laws of the translation need of the m rows and n columns of bits
 pub record Roomy (m n : ℕ) (bit : ℕ → ℕ → ℕ) : Type 0 where
@@ -26,7 +26,8 @@ live-le bit m zero h = h
 live-le bit m (suc c) h = omega arith
 
 -- the ones of a column and the places that stay live after it are among the places open
-pub live-next : (m n : ℕ) (bit : ℕ → ℕ → ℕ) → Roomy m n bit → (c : ℕ) → c < n → weight bit m c + liveBefore bit m (suc c) ≤ 2 * liveBefore bit m c
+pub live-next : (m n : ℕ) (bit : ℕ → ℕ → ℕ) → Roomy m n bit → (c : ℕ) → c < n →
+    weight bit m c + liveBefore bit m (suc c) ≤ 2 * liveBefore bit m c
 unfolding liveBefore
 live-next m n bit r c h = omega (arith, r .room c h)
 
@@ -46,7 +47,8 @@ module _ (M : Matrix) (a : Accepted M) where
   accepted-live : live (bit M) (M .rows) 0 1 (M .columns) ≡ true
   accepted-live =
       live-is (bit M) (M .rows) (M .columns) (accepted-bits M a) ∙
-      le-leb (total-from (bit M) (M .rows) 0 (M .columns)) (2 ^ M .columns) (omega (arith, a .sum, total-is M (bit M) (λ v c h l. refl)))
+      le-leb (total-from (bit M) (M .rows) 0 (M .columns)) (2 ^ M .columns)
+      (omega (arith, a .sum, total-is M (bit M) (λ v c h l. refl)))
 
   pub accepted-roomy : Roomy (M .rows) (M .columns) (bit M)
   unfolding liveBefore

@@ -11,11 +11,11 @@ use Rattle.laws.specs.Each.{Each, each-blocks}
 use Rattle.files.specs.Live.{weight}
 use Rattle.programs.specs.Instructions.{uses}
 use Rattle.programs.specs.declared.description.Instruction.{Instruction}
-use Rattle.programs.specs.declared.description.Instruction.the-variants.{Or}
 use Rattle.machine.specs.Accepting.{OneOf, Ready, none, ready-more, ready-less, ready-append, ready-blocks, ready-stay}
-use Rattle.compiler.specs.Translation.{regB, regN, regH, regV, regX, regY, clear, begin, apart, split, ifSet, spell, mark, met, marks, carry, keep, tell, end, liveBefore, column}
+use Rattle.compiler.specs.Translation.{regB, regN, regH, regX, regY, clear, begin, apart, split, spell, mark, marks}
+use Rattle.compiler.specs.Translation.{carry, keep, tell, end, liveBefore, column, translationOf}
 use Rattle.compiler.specs.Room.{Roomy, live-next}
-use Rattle.compiler.specs.Ranges.{marks-each}
+use Rattle.compiler.specs.Ranges.{each-if, each-marks}
 
 -- the numbers from a up to b, and from c up to d
 abbrev Spans : ℕ → ℕ → ℕ → ℕ → ℕ → Type 0
@@ -57,8 +57,9 @@ module _ (k m : ℕ) where
   unfolding begin
   begin-ready =
       let zeros : List Instruction = blocks k clear in
+      let first : ℕ → Type 0 = Spans 2 3 (regX k 0) (regX k 1) in
       let after : ℕ → Type 0 = Spans 2 (3 + k) (regX k 0) (regX k 1) in
-      (tt, (tt, ready-less zeros _ after (Held 1) begin-held (ready-more zeros (Spans 2 3 (regX k 0) (regX k 1)) _ after begun zeros-ready)))
+      (tt, (tt, ready-less zeros _ after (Held 1) begin-held (ready-more zeros first _ after begun zeros-ready)))
 
   -- ---- a column with h distances live before it
   module _ (h : ℕ) where
@@ -79,7 +80,8 @@ module _ (k m : ℕ) where
         (inr (inl (omega arith)), (inr (inl (omega arith)), tt)),
         (λ r x. ⊎-elim
             (λ (q : OneOf (regY k m (2 * i + 1) ∷ []) r). inl q)
-            (λ (y : Open (2 * i + 1) r). inr (second-grown 0 (regX k h) (regY k m 0) (regY k m (2 * i)) (regY k m (2 * i + 1)) r (omega arith) y))
+            (λ (y : Open (2 * i + 1) r).
+            inr (second-grown 0 (regX k h) (regY k m 0) (regY k m (2 * i)) (regY k m (2 * i + 1)) r (omega arith) y))
             (second-grown 0 (regX k h) (regY k m 0) (regY k m (2 * i + 1)) (regY k m (2 * suc i)) r (omega arith) x)),
       ),
     )
@@ -94,16 +96,12 @@ module _ (k m : ℕ) where
     abbrev Reading : Instruction → Type 0
     Reading i = Each (Open (2 * h)) (uses i .reads)
 
-    if-reads : (b t j : ℕ) → t < k → j < 2 * h → Each Reading (ifSet b (Or (regV t) (regV t) (regY k m j)))
-    unfolding ifSet
-    if-reads zero t j l u = tt
-    if-reads (suc b) t j l u = ((inl (omega arith), (inr (omega arith), tt)), tt)
-
     mark-reads : (v j : ℕ) → j < 2 * h → Each Reading (mark k m v j)
     unfolding mark
     mark-reads v j l = (
       (inl (omega arith), (inr (omega arith), tt)),
-      each-blocks Reading (spell k m v j) k (λ t u. if-reads (v / 2 ^ t % 2) t j u l),
+      each-blocks Reading (spell k m v j) k
+          (λ t u. each-if Reading (v / 2 ^ t % 2) _ (λ b. ((inl (omega arith), (inr (omega arith), tt)), tt))),
     )
 
     -- the first i of the X, and the Y
@@ -137,7 +135,7 @@ module _ (k m : ℕ) where
         ready-append (split k m c h ++ met) (keep k m (weight bit m c) g) (Held h) (Open h (2 * h)) (Held g)
         (ready-append (split k m c h) met (Held h) (Open h (2 * h)) (Open h (2 * h)) (split-ready h c)
         (ready-stay (Open h (2 * h)) met
-        (marks-each k m (Reading h) (2 * h) (λ v j u. mark-reads h v j u) (λ v. bit v c) m 0 (λ v u. roomy .bits v c u l) (omega arith))))
+        (each-marks (Reading h) k m (2 * h) (mark-reads h) (λ v. bit v c) m 0 (omega arith))))
         (keep-ready h (weight bit m c) g next)
 
     end-reads : Each (λ i. Each (Held 0) (uses i .reads)) (end k)
@@ -145,11 +143,11 @@ module _ (k m : ℕ) where
     end-reads = ((omega arith, tt), each-blocks (λ i. Each (Held 0) (uses i .reads)) tell k (λ t l. ((omega arith, tt), tt)))
 
     -- whatever is live at the end, H and each V are written
-    pub written-first : Ready none (begin k ++ blocks n (column k m bit) ++ end k) none
+    pub written-first : Ready none (translationOf k m n bit) none
     unfolding liveBefore
     written-first =
         let live : ℕ → ℕ = liveBefore bit m in
-        ready-less (begin k ++ blocks n (column k m bit) ++ end k) none (Held 0) none (λ r x. absurd x)
+        ready-less (translationOf k m n bit) none (Held 0) none (λ r x. absurd x)
         (ready-append (begin k ++ blocks n (column k m bit)) (end k) none (Held (live n)) (Held 0)
         (ready-append (begin k) (blocks n (column k m bit)) none (Held 1) (Held (live n)) begin-ready
         (ready-blocks (λ c. Held (live c)) (column k m bit) n column-ready))

@@ -34,12 +34,16 @@ enum-known-length : tie.Need-enum-known-length
 enum-known-length c = search needs
 
 array-share-prefix-program : tie.Need-array-share-prefix-program
-array-share-prefix-program c = omega (arith, program-fits _ _ _ (rw (c .before .length .given .1) at (c .before .before .before .before .compile .ensures .0)))
+array-share-prefix-program c =
+    let found = c .before in
+    let answer = rw (found .length .given .1) at (found .before .before .before .compile .ensures .0) in
+    omega (arith, program-fits _ _ _ answer)
 
 slice-aggregate-list : tie.Need-slice-aggregate-list
 slice-aggregate-list c =
-    simp length-take
-    (omega (arith, program-fits _ _ _ (rw (c .before .before .length .given .1) at (c .before .before .before .before .before .compile .ensures .0))))
+    let found = c .before .before in
+    let answer = rw (found .length .given .1) at (found .before .before .before .compile .ensures .0) in
+    simp length-take (omega (arith, program-fits _ _ _ answer))
 
 list-requires : tie.Need-list-requires
 list-requires c κs = search needs

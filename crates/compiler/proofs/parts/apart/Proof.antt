@@ -32,7 +32,13 @@ same-length : tie.Need-same-length
 same-length c = search needs
 
 returns : tie.Need-returns
-returns c = emitted-after (rw (c .before .before .before .before .before .before .before .before .before .before .reg-x .ensures, c .before .before .before .before .before .before .before .before .before .reg-y .ensures) at (c .before .before .before .before .before .before .before .put .ensures)) (rw (c .before .before .before .before .before .before .before .before .before .before .reg-x .ensures, c .before .before .before .before .reg-y2 .ensures) at (c .before .before .put2 .ensures))
+returns c =
+    let second = c .before .before in
+    let to = second .before .before in
+    let first = to .before .before .before in
+    let even = first .before .before in
+    let from = even .before .reg-x .ensures in
+    emitted-after (rw (from, even .reg-y .ensures) at (first .put .ensures)) (rw (from, to .reg-y2 .ensures) at (second .put2 .ensures))
 
 pub apart-spec : {M : Type 1} → statement M
 apart-spec =

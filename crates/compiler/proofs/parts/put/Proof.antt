@@ -17,7 +17,9 @@ same-length : tie.Need-same-length
 same-length c = search needs
 
 returns : tie.Need-returns
-returns c = emitted-one _ _ _ _ _ (c .length .ensures) (c .before .before .before .before .before .before .pre) (c .before .before .before .encode .ensures .1)
+returns c =
+    let laid = c .before .before .before in
+    emitted-one (c .length .ensures) (laid .before .before .before .pre) (laid .encode .ensures .1)
 
 pub put-spec : {M : Type 1} → statement M
 put-spec = tie.close (tie.spec encode-requires length-requires add-result same-length returns)

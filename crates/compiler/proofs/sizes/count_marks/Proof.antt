@@ -8,7 +8,8 @@ use Rattle.compiler.proofs.sizes.count_marks.Statement.{statement}
 use Rattle.compiler.proofs.sizes.count_marks.Tie as tie
 
 abbrev Inv-loop : tie.InvT-loop
-Inv-loop bytes stride m c rows₀ instructions₀ v₀ rows instructions v = (v ≤ m) × Marked (λ v. packedRows bytes stride v c) v rows instructions
+Inv-loop bytes stride m c rows₀ instructions₀ v₀ rows instructions v =
+    (v ≤ m) × Marked (λ v. packedRows bytes stride v c) v rows instructions
 
 abbrev μ-loop : tie.MeasureT-loop
 μ-loop bytes stride m c rows₀ instructions₀ v₀ rows instructions v = m - v
@@ -35,10 +36,12 @@ add-instructions : tie.Need-add-instructions Inv-loop μ-loop
 add-instructions c = record { fits = omega (arith, ones-few (c .before .before .loop .v) (omega arith)) }
 
 mul-instructions : tie.Need-mul-instructions Inv-loop μ-loop
-mul-instructions c = record { fits = omega (arith, mark-few (c .before .before .loop .v) (c .bit .result) (omega arith) (c .bit .ensures .1)) }
+mul-instructions c =
+    record { fits = omega (arith, mark-few (c .before .before .loop .v) (c .bit .result) (omega arith) (c .bit .ensures .1)) }
 
 add-instructions-2 : tie.Need-add-instructions-2 Inv-loop μ-loop
-add-instructions-2 c = record { fits = omega (arith, mark-few (c .before .before .loop .v) (c .bit .result) (omega arith) (c .bit .ensures .1)) }
+add-instructions-2 c =
+    record { fits = omega (arith, mark-few (c .before .before .loop .v) (c .bit .result) (omega arith) (c .bit .ensures .1)) }
 
 add-v : tie.Need-add-v Inv-loop μ-loop
 add-v c = search needs
@@ -47,10 +50,12 @@ loop-less : tie.Need-loop-less Inv-loop μ-loop
 loop-less c = search needs
 
 loop-again : tie.Need-loop-again Inv-loop μ-loop
-loop-again c = (search needs, marked-more _ _ _ _ _ (c .bit .ensures .0) (c .bit .ensures .1) (omega arith) (c .before .before .loop .inv .1))
+loop-again c = (search needs, marked-more (c .bit .ensures .0) (c .bit .ensures .1) (omega arith) (c .before .before .loop .inv .1))
 
 returns : tie.Need-returns Inv-loop μ-loop
-returns c = marked-counted _ _ _ _ _ _ (λ v l. bit-le _ _ _ _) (c .before .loop .inv .0) (c .loop-test .left) (c .before .loop .inv .1)
+returns c =
+    let inv = c .before .loop .inv in
+    marked-counted _ (λ v. bit-le _ _ _ _) (inv .0) (c .loop-test .left) (inv .1)
 
 pub count-marks-spec : {M : Type 1} → statement M
 count-marks-spec =

@@ -2,7 +2,7 @@
 use borrow.Author.Needs.{needs}
 use native.Mathlib.Omega.{arith}
 use lib.Count.{leading-le}
-use Rattle.compiler.specs.EmittingWidth.{counted-width}
+use Rattle.compiler.specs.Width.{counted-width}
 use Rattle.compiler.proofs.sizes.row_bits.Statement.{statement}
 use Rattle.compiler.proofs.sizes.row_bits.Tie as tie
 

@@ -1,11 +1,31 @@
--- A place of the walk, a row that is hit or a distance, as the bits that one lane holds of it. Assumes nothing.
-use Prim.Native.Nat.{ℕ, zero, suc, _+_, _*_, _-_, _/_, _%_, _^_, _≤_, min, max}
-use mathlib.Core.Path.{_≡_, refl, sym, ap, _∙_}
+-- A place of the walk, a row that is hit or a distance, as the bits that one lane holds of it; and the walk as the places that it comes
+-- to, column after column. Assumes nothing.
+use Prim.Native.Nat.{ℕ, zero, suc, _+_, _*_, _-_, _/_, _%_, _^_, _≤_, _<_, min, max}
+use mathlib.Core.Path.{_≡_, refl, ap, _∙_}
 use mathlib.Core.Logic.{_≢_}
 use native.Mathlib.Nat.{add-zero}
 use native.Mathlib.Numerals.{add-one}
 use native.Mathlib.Omega.{arith}
-use Rattle.walk.specs.Walk.{Place, found, left, Drawn, hit, miss, Answer, sample, missed, answerOf, at, then}
+use Rattle.laws.specs.Lay.{upto}
+use Rattle.laws.specs.From.{from, upto-from}
+use Rattle.walk.specs.Walk.{Place, found, left, Drawn, miss, Answer, sample, missed, answerOf, at, scan, then, walk}
+use Rattle.walk.specs.Steps.{Below, scan-below}
+
+-- ---- what is told, bit by bit
+-- H: there is a sample
+unfoldable pub hitBit : Answer → ℕ
+hitBit (sample v) = 1
+hitBit missed = 0
+
+-- V_t: bit t of it
+unfoldable pub sampleBit : ℕ → Answer → ℕ
+sampleBit t (sample v) = v / 2 ^ t % 2
+sampleBit t missed = 0
+
+-- what is told of a place, if the walk ends there
+unfoldable pub answerAt : Place → Answer
+answerAt (found v) = sample v
+answerAt (left d) = missed
 
 -- 1 if the two are one
 unfoldable pub same : ℕ → ℕ → ℕ
@@ -13,16 +33,6 @@ same zero zero = 1
 same zero (suc d) = 0
 same (suc i) zero = 0
 same (suc i) (suc d) = same i d
-
--- H: a row is hit
-unfoldable pub isHit : Place → ℕ
-isHit (found v) = 1
-isHit (left d) = 0
-
--- V_t: bit t of the row that is hit
-unfoldable pub rowBit : ℕ → Place → ℕ
-rowBit t (found v) = v / 2 ^ t % 2
-rowBit t (left d) = 0
 
 -- X_i: the distance is i
 unfoldable pub isAt : ℕ → Place → ℕ
@@ -45,6 +55,11 @@ meeting v (left (suc d)) = left d
 unfoldable pub onto : Place → (ℕ → Place) → Place
 onto (found v) go = found v
 onto (left d) go = go d
+
+-- after c columns, on the bits b 0, b 1, ..
+unfoldable pub placeAfter : (ℕ → ℕ → ℕ) → ℕ → (ℕ → ℕ) → ℕ → Place
+placeAfter bit m b zero = left 0
+placeAfter bit m b (suc c) = onto (doubled (b c) (placeAfter bit m b c)) (λ d. scan (λ v. bit v c) m d)
 
 -- ---- the bits of what it does
 same-le : (i d : ℕ) → same i d ≤ 1
@@ -89,24 +104,19 @@ doubled-odd zero i (left d) h = omega (arith, same-not (2 * i + 1) (2 * d + 0) (
 doubled-odd (suc zero) i (left d) h = omega (arith, same-le i d, same-odd i d)
 doubled-odd (suc (suc b)) i (left d) h = absurd (omega arith)
 
-pub doubled-hit : (b : ℕ) (o : Place) → isHit o ≡ isHit (doubled b o)
-unfolding isHit doubled
-doubled-hit b (found v) = refl
-doubled-hit b (left d) = refl
+pub doubled-answer : (b : ℕ) (o : Place) → answerAt o ≡ answerAt (doubled b o)
+unfolding answerAt doubled
+doubled-answer b (found v) = refl
+doubled-answer b (left d) = refl
 
-pub doubled-row : (b t : ℕ) (o : Place) → rowBit t o ≡ rowBit t (doubled b o)
-unfolding rowBit doubled
-doubled-row b t (found v) = refl
-doubled-row b t (left d) = refl
-
-pub meeting-hit : (v : ℕ) (o : Place) → max (isHit o) (isAt 0 o) ≡ isHit (meeting v o)
-unfolding isHit isAt meeting same
+pub meeting-hit : (v : ℕ) (o : Place) → max (hitBit (answerAt o)) (isAt 0 o) ≡ hitBit (answerAt (meeting v o))
+unfolding hitBit answerAt isAt meeting same
 meeting-hit v (found u) = refl
 meeting-hit v (left zero) = refl
 meeting-hit v (left (suc d)) = refl
 
-pub meeting-row : (v t : ℕ) (o : Place) → max (rowBit t o) (v / 2 ^ t % 2 * isAt 0 o) ≡ rowBit t (meeting v o)
-unfolding rowBit isAt meeting same
+pub meeting-row : (v t : ℕ) (o : Place) → max (sampleBit t (answerAt o)) (v / 2 ^ t % 2 * isAt 0 o) ≡ sampleBit t (answerAt (meeting v o))
+unfolding sampleBit answerAt isAt meeting same
 meeting-row v t (found u) = omega arith
 meeting-row v t (left zero) = omega arith
 meeting-row v t (left (suc d)) = omega arith
@@ -134,24 +144,51 @@ onto-set b r (found v) go = refl
 onto-set b r (left zero) go = refl
 onto-set b r (left (suc d)) go = refl
 
+onto-below : (m x : ℕ) (o : Place) (go : ℕ → Place) → Below m o → ((d : ℕ) → Below m (go d)) → Below m (onto (doubled x o) go)
+unfolding onto doubled
+onto-below m x (found v) go h f = h
+onto-below m x (left d) go h f = f (2 * d + x)
+
 -- ---- what is told of a walk, whatever the column of its hit
-unfoldable pub told : Place → Answer
-told (found v) = sample v
-told (left d) = missed
+then-none : (c : ℕ) (o : Place) → answerOf (then c o (λ d. miss)) ≡ answerAt o
+unfolding then answerAt
+then-none c (found v) = refl
+then-none c (left d) = refl
 
-pub answer-hit : (v c : ℕ) → answerOf (hit v c) ≡ sample v
-answer-hit v c = refl
-
-pub answer-miss : answerOf miss ≡ missed
-answer-miss = refl
-
-pub told-none : (c : ℕ) (o : Place) → answerOf (then c o (λ d. miss)) ≡ told o
-unfolding then told
-told-none c (found v) = answer-hit v c
-told-none c (left d) = answer-miss
-
-pub told-column : (c e b : ℕ) (o : Place) (rows : ℕ → Place) (go : ℕ → Drawn) →
+then-column : (c e b : ℕ) (o : Place) (rows : ℕ → Place) (go : ℕ → Drawn) →
     answerOf (then c o (λ d. then e (rows (2 * d + b)) go)) ≡ answerOf (then e (onto (doubled b o) rows) go)
 unfolding then onto doubled
-told-column c e b (found v) rows go = answer-hit v c ∙ sym (answer-hit v e)
-told-column c e b (left d) rows go = refl
+then-column c e b (found v) rows go = refl
+then-column c e b (left d) rows go = refl
+
+pub below-answer : (m v : ℕ) (o : Place) → answerAt o ≡ sample v → Below m o → v < m
+unfolding answerAt
+below-answer m v (found u) e h =
+    let q : u ≡ v = cc in
+    omega arith
+below-answer m v (left d) e h = absurd (let z : _≡_ {A = ℕ} 0 1 = cc in omega arith)
+
+module _ (bit : ℕ → ℕ → ℕ) (m : ℕ) (b : ℕ → ℕ) where
+  walk-from : (n c x : ℕ) →
+      answerOf (then x (placeAfter bit m b c) (λ d. walk bit m c d (from b c n))) ≡ answerAt (placeAfter bit m b (c + n))
+  unfolding from walk placeAfter
+  walk-from zero c x =
+      let e : c + 0 ≡ c = omega arith in
+      rw e (then-none x (placeAfter bit m b c))
+  walk-from (suc n) c x =
+      let e : suc c + n ≡ c + suc n = omega arith in
+      then-column x c (b c) (placeAfter bit m b c) (λ d. scan (λ v. bit v c) m d) (λ d. walk bit m (suc c) d (from b (suc c) n)) ∙
+      (rw e at (walk-from n (suc c) c))
+
+  -- the walk tells of the place after its last column
+  pub walk-answer : (n : ℕ) → answerOf (walk bit m 0 0 (upto n b)) ≡ answerAt (placeAfter bit m b n)
+  unfolding placeAfter then
+  walk-answer n =
+      let e : 0 + n ≡ n = omega arith in
+      rw (upto-from n b) (rw e at (walk-from n 0 0))
+
+  pub place-below : (c : ℕ) → Below m (placeAfter bit m b c)
+  unfolding placeAfter
+  place-below zero = tt
+  place-below (suc c) =
+      onto-below m (b c) (placeAfter bit m b c) (λ d. scan (λ v. bit v c) m d) (place-below c) (scan-below (λ v. bit v c) m)
