@@ -18,7 +18,7 @@ use Rattle.machine.specs.Runs.{startOf}
 use Rattle.drawing.specs.Drawing.{drawnWith, drawOf, drawSignedOf}
 use Rattle.engine.specs.Demand2.{compiled-is-accepted}
 use Rattle.engine.specs.Batches.{slicedWords, drawnAt, batch-samples, batch-signed}
-use Rattle.compiler.specs.Starting.{inputs-are}
+use Rattle.compiler.specs.Compiled.{inputs-are}
 
 module _ (file : List ℕ) (M : Matrix) (e : matrixOf file ≡ gives M) (strings : List ℕ) (sound : stringsOf lanes (M .columns) strings ≡ gives tt) (room : ℕ)
     (space : lanes ≤ room) where

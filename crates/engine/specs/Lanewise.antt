@@ -19,8 +19,10 @@ use Rattle.walk.specs.Walk.{sample, missed, drawn, answerOf}
 use Rattle.lanes.specs.Slicing.{lanes}
 use Rattle.lanes.specs.Samples.{sampleOf, hits, spelled}
 use Rattle.compiler.specs.Translation.{translation, program, compiled, rowBits}
-use Rattle.compiler.specs.Computes.{givenBy, carried}
-use Rattle.compiler.specs.Starting.{whole, fresh, start-compiled, start-gives}
+use Rattle.compiler.specs.Computes.{givenBy, laneInputs}
+use Rattle.compiler.specs.Compiled.{compiledCode}
+use Rattle.compiler.specs.Computes.{start-compiled, start-gives}
+use Rattle.machine.specs.Resuming.{wholeRun, cleared}
 
 -- the bits of lane j, one for each of the first n words
 abbrev pub laneBits : ℕ → List ℕ → ℕ → List ℕ
@@ -30,20 +32,12 @@ laneBits n inputs j = upto n (λ i. bitAt (getD inputs i 0) j)
 pub getD-lane : (j : ℕ) (xs : List ℕ) (i : ℕ) → getD (map (lane j) xs) i 0 ≡ bitAt (getD xs i 0) j
 getD-lane j xs i = ap (getD (map (lane j) xs) i) (sym (bitAt-zero j)) ∙ List·getD-map (lane j) xs i 0
 
-pack-sum : (k : ℕ) (f : ℕ → ℕ) → pack k f ≡ sumTo k (λ t. f t * 2 ^ t)
-unfolding pack sumTo
-pack-sum zero f = refl
-pack-sum (suc k) f = omega (arith, pack-sum k f)
-
 -- the sample that a lane of the output words spells is the one that the lane's bits give
 lane-given : (outputs : List ℕ) (j k : ℕ) → length outputs ≡ 1 + k → sampleOf outputs j ≡ givenBy k (λ o. bitAt (getD outputs o 0) j)
 unfolding sampleOf hits spelled givenBy
 lane-given outputs j k e =
     let m : length outputs - 1 ≡ k = omega arith in
-    let s : sumTo k (λ t. bitAt (getD outputs (t + 1) 0) j * 2 ^ t) ≡ sumTo k (λ t. bitAt (getD outputs (1 + t) 0) j * 2 ^ t) =
-    sum-eq k (λ t. bitAt (getD outputs (t + 1) 0) j * 2 ^ t) (λ t. bitAt (getD outputs (1 + t) 0) j * 2 ^ t)
-    (λ t l. ap (λ (i : ℕ). bitAt (getD outputs i 0) j * 2 ^ t) (add-comm t 1)) in
-    rw m (ap (λ (x : ℕ). cond (eqb (bitAt (getD outputs 0 0) j) 1) (sample x) missed) (pack-sum k (λ t. bitAt (getD outputs (t + 1) 0) j) ∙ s))
+    rw m
 
 given-eq : (k : ℕ) (f g : ℕ → ℕ) → ((o : ℕ) → f o ≡ g o) → givenBy k f ≡ givenBy k g
 given-eq k f g e = ap (givenBy k) (mathlib.Core.Path.fun-ext e)
@@ -54,7 +48,7 @@ module _ (M : Matrix) (a : Accepted M) (inputs registers outputs : List ℕ) (bu
     (enough : program M .count ≤ budget) where
   -- where the start ends
   unfoldable pub ended : Ended ℕ
-  ended = whole words (translation M) inputs budget (fresh words M)
+  ended = wholeRun words (compiledCode M) inputs budget (cleared words (program M))
 
   pub start-is : startOf (compiled M) inputs registers outputs budget ≡ gives ended
   unfolding ended
@@ -70,13 +64,13 @@ module _ (M : Matrix) (a : Accepted M) (inputs registers outputs : List ℕ) (bu
 
   pub long : length (ended .state .outputs) ≡ 1 + rowBits (M .rows)
   unfolding ended
-  long = exec-long words inputs (translation M) (fresh words M) .1 ∙ (length-replicate {A = ℕ} (program M .outputs) 0 ∙ outputs-are)
+  long = exec-long words inputs (translation M) (cleared words (program M)) .1 ∙ (length-replicate {A = ℕ} (program M .outputs) 0 ∙ outputs-are)
 
   -- the lane's start, with bits for words
   lane-is : startOn bits (compiled M) (map (lane j) inputs) (map (lane j) registers) (map (lane j) outputs) budget ≡ gives (mapEnded (lane j) ended)
   lane-is = sym (lane-start j jl inputs small (compiled M) registers outputs budget) ∙ ap (mapped (mapEnded (lane j))) start-is
 
-  carried-is : carried M (map (lane j) inputs) ≡ laneBits (M .columns) inputs j
+  carried-is : laneInputs M (map (lane j) inputs) ≡ laneBits (M .columns) inputs j
   carried-is = upto-eq (M .columns) (λ c. getD (map (lane j) inputs) c 0) (λ c. bitAt (getD inputs c 0) j) (λ c l. getD-lane j inputs c)
 
   -- lane j of the outputs gives what the walk draws on lane j's bits
