@@ -1,29 +1,33 @@
 -- One lane of a compiled program computes the walk: what its outputs spell is what the walk draws, whatever registers and outputs held
 -- before; and a start of it with budget enough runs to the end (01, "What a compiled program gives for a string"). Assumes nothing.
-use Prim.Native.Nat.{ℕ, _+_, _/_, _%_, _^_, _≤_, _<_}
+use Prim.Native.Nat.{ℕ, _+_, _*_, _/_, _%_, _^_, _≤_, _<_}
 use mathlib.Core.Path.{_≡_, refl, sym, ap, _∙_}
 use mathlib.Core.Bool.{cond}
-use mathlib.Core.List.{List, _++_}
-use mathlib.Core.Logic.{_↔_}
+use mathlib.Core.List.{List, [], _∷_, _++_}
+use mathlib.Core.Logic.{_≢_, _↔_}
 use native.Mathlib.Omega.{arith}
 use lib.Dec.{eqb}
 use lib.ListN.{length, getD}
 use Rattle.laws.specs.Words.{bitAt, pack, pack-eq, pack-bits}
 use Rattle.laws.specs.Lay.{blocks, upto}
+use Rattle.laws.specs.Each.{each-blocks}
 use Rattle.laws.specs.Outcome.{gives, gives-inj}
 use Rattle.files.specs.Matrix.{Matrix, Accepted, bit}
-use Rattle.walk.specs.Walk.{Place, Drawn, hit, miss, Answer, sample, missed, answerOf, drawn}
+use Rattle.programs.specs.declared.description.Instruction.{Instruction}
+use Rattle.programs.specs.declared.description.Instruction.the-variants.{Ones, Zero, Output}
+use Rattle.walk.specs.Walk.{Place, left, Drawn, hit, miss, Answer, sample, missed, answerOf, drawn}
 use Rattle.machine.specs.Meaning.{Gates, bits, State, exec}
 use Rattle.machine.specs.Runs.{Ended, startOn}
 use Rattle.machine.specs.Resuming.{wholeRun, cleared, exec-append, start-whole, sized-cleared}
-use Rattle.compiler.specs.Translation.{rowBits, begin, end, liveBefore, column, translation, program, compiled}
+use Rattle.compiler.specs.Translation.{rowBits, regH, regV, regX, clear, begin, tell, end, liveBefore, column}
+use Rattle.compiler.specs.Translation.{translation, program, compiled}
 use Rattle.compiler.specs.Width.{row-lt}
-use Rattle.compiler.specs.Room.{accepted-roomy}
+use Rattle.compiler.specs.Room.{Roomy, accepted-roomy}
 use Rattle.compiler.specs.Compiled.{compiledCode, inputs-are, registers-are, outputs-are, compiled-accepted}
-use Rattle.compiler.specs.Places.{hitBit, sampleBit, answerAt, placeAfter, walk-answer, below-answer, place-below}
-use Rattle.compiler.specs.Effects.{run, still-wide}
-use Rattle.compiler.specs.Columns.{Stands}
-use Rattle.compiler.specs.Lane.{end-hit, end-row, columns-run}
+use Rattle.compiler.specs.Places.{hitBit, sampleBit, answerAt, same, isAt, placeAfter, walk-answer, below-answer, place-below}
+use Rattle.compiler.specs.Effects.{reg, out, Leaves, Passes, run, still-long, still-wide, run-leaves, writes-first, output-first}
+use Rattle.compiler.specs.Effects.{blocks-leave, blocks-pass, blocks-lead}
+use Rattle.compiler.specs.Columns.{Stands, column-run}
 
 -- what 1 + k outputs of a lane give: a sample where output 0 is set, spelled by the others, lowest first (01, "Runs, words, samples")
 unfoldable pub givenBy : ℕ → (ℕ → ℕ) → Answer
@@ -36,36 +40,77 @@ laneInputs M inputs = upto (M .columns) (λ i. getD inputs i 0)
 -- ---- outputs that hold an answer bit by bit give it
 pub given-is : (k : ℕ) (output : ℕ → ℕ) (x : Answer) → output 0 ≡ hitBit x → ((t : ℕ) → t < k → output (1 + t) ≡ sampleBit t x) →
     ((v : ℕ) → x ≡ sample v → v < 2 ^ k) → givenBy k output ≡ x
-unfolding givenBy hitBit sampleBit bitAt
+unfolding givenBy bitAt
 given-is k output (sample v) e f b =
     let spelled : pack k (λ t. output (t + 1)) ≡ pack k (bitAt v) =
     pack-eq k (λ t. output (t + 1)) (bitAt v) (λ t l. ap output (omega arith) ∙ f t l) in
     rw e (ap sample (spelled ∙ pack-bits k v (b v refl)))
 given-is k output missed e f b = rw e refl
 
+-- ---- from the beginning of the translation to its outputs
+module _ (inputs : List ℕ) (k m : ℕ) where
+  zeros-leave : (n : ℕ) (s : State ℕ) (r : ℕ) → ((t : ℕ) → t < n → r ≢ regV t) → reg r (run inputs (blocks n clear) s) ≡ reg r s
+  zeros-leave n s r f = run-leaves inputs r (blocks n clear) s (each-blocks (Leaves r) clear n (λ t l. ((f t l, tt), tt)))
+
+  -- whatever the registers held
+  begin-run : (s : State ℕ) → 1 ≤ m → 3 + k + 3 * m ≤ length (s .registers) → Stands k m 1 (left 0) (run inputs (begin k) s)
+  unfolding exec begin answerAt isAt same
+  begin-run s some long =
+      let one : List Instruction = Ones (regX k 0) ∷ [] in
+      let two : List Instruction = Ones (regX k 0) ∷ Zero regH ∷ [] in
+      let s′ : State ℕ = run inputs two s in
+      let long₁ = still-long inputs one s (3 + k + 3 * m) long in
+      let long₂ = still-long inputs two s (3 + k + 3 * m) long in
+      record {
+        tells =
+            record {
+              long = still-long inputs (blocks k clear) s′ (3 + k + 3 * m) long₂;
+              atH = zeros-leave k s′ regH (λ t l. omega arith) ∙
+                  writes-first inputs (Zero regH) [] (run inputs one s) regH refl (omega arith) tt;
+              atV = λ t l. blocks-leave inputs (regV t) clear s′ k t l (λ u a b. ((omega arith, tt), tt)) ∙
+                  writes-first inputs (Zero (regV t)) [] (run inputs (blocks t clear) s′) (regV t) refl
+                  (omega (arith, still-long inputs (blocks t clear) s′ (3 + k + 3 * m) long₂)) tt;
+            };
+        atX = λ i l. let e : i ≡ 0 = omega arith in
+            rw e
+            (zeros-leave k s′ (regX k 0) (λ t u. omega arith) ∙
+            writes-first inputs (Ones (regX k 0)) (Zero regH ∷ []) s (regX k 0) refl (omega arith) ((omega arith, tt), tt));
+      }
+
+  end-hit : (s : State ℕ) → 1 + k ≤ length (s .outputs) → out 0 (run inputs (end k) s) ≡ reg regH s
+  unfolding end
+  end-hit s wide =
+      output-first inputs 0 regH (blocks k tell) s (omega arith) (each-blocks (Passes 0) tell k (λ t l. ((omega arith, tt), tt)))
+
+  end-row : (s : State ℕ) → 1 + k ≤ length (s .outputs) → (t : ℕ) → t < k → out (1 + t) (run inputs (end k) s) ≡ reg (regV t) s
+  unfolding exec end
+  end-row s wide t l =
+      let one : List Instruction = Output 0 regH ∷ [] in
+      let s′ : State ℕ = run inputs one s in
+      let wide′ : 1 + k ≤ length (s′ .outputs) = still-wide inputs one s (1 + k) wide in
+      blocks-pass inputs (1 + t) tell s′ k t l (λ u a b. ((omega arith, tt), tt)) ∙
+      (output-first inputs (1 + t) (regV t) [] (run inputs (blocks t tell) s′)
+      (omega (arith, still-wide inputs (blocks t tell) s′ (1 + k) wide′)) tt ∙
+      run-leaves inputs (regV t) (blocks t tell) s′ (each-blocks (Leaves (regV t)) tell t (λ u a. (tt, tt))))
+
+  -- ---- the columns, one after another: the state that the outputs are taken from
+  module _ (n : ℕ) (bit : ℕ → ℕ → ℕ) (roomy : Roomy m n bit) (ok : (c : ℕ) → c < n → getD inputs c 0 ≤ 1) where
+    columns-run : (s : State ℕ) → 3 + k + 3 * m ≤ length (s .registers) →
+        Stands k m (liveBefore bit m n) (placeAfter bit m (λ i. getD inputs i 0) n) (run inputs (begin k ++ blocks n (column k m bit)) s)
+    unfolding placeAfter liveBefore
+    columns-run s long =
+        let at : ℕ → Place = placeAfter bit m (λ i. getD inputs i 0) in
+        rw (exec-append bits inputs (begin k) (blocks n (column k m bit)) s)
+        (blocks-lead inputs (column k m bit) (run inputs (begin k) s) (λ c t. Stands k m (liveBefore bit m c) (at c) t) n
+        (λ c t l x. column-run inputs k m n bit roomy c (at c) t l (ok c l) x) (begin-run s (roomy .some-rows) long))
+
 -- ---- what is told of a hit and of a miss
-hit-is : (v c : ℕ) → hitBit (answerOf (hit v c)) ≡ 1
-unfolding hitBit
-hit-is v c = refl
-
-miss-is : hitBit (answerOf miss) ≡ 0
-unfolding hitBit
-miss-is = refl
-
-row-is : (t v c : ℕ) → sampleBit t (answerOf (hit v c)) ≡ v / 2 ^ t % 2
-unfolding sampleBit
-row-is t v c = refl
-
-row-miss : (t : ℕ) → sampleBit t (answerOf miss) ≡ 0
-unfolding sampleBit
-row-miss t = refl
-
 drawn-hit : (d : Drawn) → hitBit (answerOf d) ≡ 1 → (v : ℕ) × ((c : ℕ) × (d ≡ hit v c))
 drawn-hit (hit v c) e = (v, (c, refl))
-drawn-hit miss e = absurd (omega (arith, miss-is))
+drawn-hit miss e = absurd (omega arith)
 
 drawn-miss : (d : Drawn) → hitBit (answerOf d) ≡ 0 → d ≡ miss
-drawn-miss (hit v c) e = absurd (omega (arith, hit-is v c))
+drawn-miss (hit v c) e = absurd (omega arith)
 drawn-miss miss e = refl
 
 -- ---- the walk on the string that a lane carries
@@ -118,17 +163,17 @@ module _ (M : Matrix) (a : Accepted M) (inputs : List ℕ) (ok : (c : ℕ) → c
 
   -- in plain words: output 0 is set exactly when the walk hits, and clear exactly when it misses
   pub set-iff-hit : (ends 0 ≡ 1) ↔ ((v : ℕ) × ((c : ℕ) × (draws ≡ hit v c)))
-  set-iff-hit = ((λ e. drawn-hit draws (sym (computes .0) ∙ e)), (λ x. computes .0 ∙ rw (x .1 .1) (hit-is (x .0) (x .1 .0))))
+  set-iff-hit = ((λ e. drawn-hit draws (sym (computes .0) ∙ e)), (λ x. computes .0 ∙ rw (x .1 .1)))
 
   pub clear-iff-miss : (ends 0 ≡ 0) ↔ (draws ≡ miss)
-  clear-iff-miss = ((λ e. drawn-miss draws (sym (computes .0) ∙ e)), (λ x. computes .0 ∙ rw x miss-is))
+  clear-iff-miss = ((λ e. drawn-miss draws (sym (computes .0) ∙ e)), (λ x. computes .0 ∙ rw x))
 
   -- the bits of the row that is hit, and 0 on a miss
   pub row-bits : (v c t : ℕ) → draws ≡ hit v c → t < rowBits (M .rows) → ends (1 + t) ≡ v / 2 ^ t % 2
-  row-bits v c t e l = computes .1 t l ∙ rw e (row-is t v c)
+  row-bits v c t e l = computes .1 t l ∙ rw e
 
   pub miss-bits : (t : ℕ) → draws ≡ miss → t < rowBits (M .rows) → ends (1 + t) ≡ 0
-  miss-bits t e l = computes .1 t l ∙ rw e (row-miss t)
+  miss-bits t e l = computes .1 t l ∙ rw e
 
 -- ---- a start with a budget no smaller than the instruction count: never refused, it runs to the end
 pub start-compiled : {A : Type 0} (G : Gates A) (M : Matrix) → Accepted M → (inputs registers outputs : List A) (budget : ℕ) →

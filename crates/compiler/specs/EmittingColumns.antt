@@ -34,17 +34,18 @@ pub record Live (bit : ℕ → ℕ → ℕ) (m c h : ℕ) : Type 0 where
   pub is : h ≡ liveBefore bit m c
   pub few : h ≤ m
 
--- what is counted in a column: its set rows, and the instructions that mark them
-pub record Counted (bit : ℕ → ℕ → ℕ) (m c rows instructions : ℕ) : Type 0 where
-  pub set : rows ≡ weight bit m c
-  pub marking : instructions ≡ length (marks (rowBits m) m (λ v. bit v c) m 0)
-  pub few : rows ≤ m
-  pub fewer : instructions ≤ m * 65
+-- what is counted of the first v rows of a column: the set ones, and the instructions that mark them, one and one for each set bit of a
+-- row's number
+pub record Marked (bits : ℕ → ℕ) (v rows instructions : ℕ) : Type 0 where
+  pub set : rows ≡ sumTo v bits
+  pub marking : instructions ≡ sumTo v (λ v. bits v * (1 + Count.ones v))
+  pub few : rows ≤ v
+  pub fewer : instructions ≤ v * 65
 
--- the same, with the live counts before and after the column
+-- what is counted of a column, with the live counts before and after it
 pub record Passed (bit : ℕ → ℕ → ℕ) (m c h rows instructions live : ℕ) : Type 0 where
   pub before : Live bit m c h
-  pub counted : Counted bit m c rows instructions
+  pub counted : Marked (λ v. bit v c) m rows instructions
   pub after : Live bit m (c + 1) live
 
 -- where a row begins
@@ -52,13 +53,6 @@ pub row-fits : (v stride : ℕ) → v ≤ most-rows → stride ≤ most-columns 
 row-fits v stride a b = omega (arith, mul-le-mul {n₁ = v} {m₁ = stride} {n₂ = most-rows} {m₂ = most-columns} a b)
 
 -- ---- counting a column
--- the same of its first v rows, where row v takes one instruction and one for each set bit of v
-pub record Marked (bits : ℕ → ℕ) (v rows instructions : ℕ) : Type 0 where
-  pub set : rows ≡ sumTo v bits
-  pub marking : instructions ≡ sumTo v (λ v. bits v * (1 + Count.ones v))
-  pub few : rows ≤ v
-  pub fewer : instructions ≤ v * 65
-
 bit-times : (b x : ℕ) → b < 2 → b * x ≤ x
 bit-times zero x h = omega arith
 bit-times (suc zero) x h = omega arith
@@ -84,27 +78,20 @@ marked-more {bits} {v} {rows} {instructions} {b} e l h s =
       fewer = omega (arith, s .fewer, mark-few v b h l);
     }
 
-pub marked-counted : {m c v rows instructions : ℕ} (bit : ℕ → ℕ → ℕ) → ((v : ℕ) → bit v c ≤ 1) → v ≤ m → m ≤ v →
-    Marked (λ v. bit v c) v rows instructions → Counted bit m c rows instructions
-unfolding weight
-marked-counted {m} {c} {v} {rows} {instructions} bit ok a b s =
+pub marked-done : {bits : ℕ → ℕ} {m v rows instructions : ℕ} → v ≤ m → m ≤ v → Marked bits v rows instructions →
+    Marked bits m rows instructions
+marked-done {bits} {m} {v} {rows} {instructions} a b s =
     let e : v ≡ m = omega arith in
-    let t : Marked (λ v. bit v c) m rows instructions = subst (λ (x : ℕ). Marked (λ v. bit v c) x rows instructions) e s in
-    record {
-      set = t .set;
-      marking = t .marking ∙ sym (marks-count (rowBits m) m (λ v. bit v c) m (λ v l. ok v) (row-lt m));
-      few = t .few;
-      fewer = t .fewer;
-    }
+    subst (λ (x : ℕ). Marked bits x rows instructions) e s
 
 -- ---- a column
 pub live-first : (bit : ℕ → ℕ → ℕ) (m : ℕ) → 1 ≤ m → Live bit m 0 1
 unfolding liveBefore
 live-first bit m h = record { is = refl; few = h }
 
-pub column-passed : {bit : ℕ → ℕ → ℕ} {m c h rows instructions live : ℕ} → Live bit m c h → Counted bit m c rows instructions →
-    live ≡ min (2 * h - rows) m → Passed bit m c h rows instructions live
-unfolding liveBefore
+pub column-passed : {bit : ℕ → ℕ → ℕ} {m c h rows instructions live : ℕ} → Live bit m c h →
+    Marked (λ v. bit v c) m rows instructions → live ≡ min (2 * h - rows) m → Passed bit m c h rows instructions live
+unfolding liveBefore weight
 column-passed {c = c} before counted e =
     record {
       before = before;
@@ -114,7 +101,7 @@ column-passed {c = c} before counted e =
 
 module _ (k : ℕ) {bit : ℕ → ℕ → ℕ} {m c h w instructions h′ : ℕ} (p : Passed bit m c h w instructions h′) where
   column-is : column k m bit c ≡ split k m c h ++ marks k m (λ v. bit v c) m 0 ++ keep k m w h′
-  unfolding column
+  unfolding column weight
   column-is = rw (p .counted .set, p .before .is, rw (add-one c) at (p .after .is))
 
   -- room for its pieces, one after another
@@ -145,9 +132,10 @@ pub columns-none : (bit : ℕ → ℕ → ℕ) (m n : ℕ) → 1 ≤ m → Colum
 unfolding blocks
 columns-none bit m n h = record { passed = omega arith; live = live-first bit m h; is = refl; few = omega arith }
 
-pub columns-more : {bit : ℕ → ℕ → ℕ} {m n c h w instructions h′ count : ℕ} → m ≤ most-rows → c < n → Columns bit m n c h count →
-    Passed bit m c h w instructions h′ → Columns bit m n (c + 1) h′ (count + (2 + 2 * h + instructions + h′))
-columns-more {bit} {m} {n} {c} {h} {w} {instructions} {h′} {count} few l s p =
+pub columns-more : {bit : ℕ → ℕ → ℕ} {m n c h w instructions h′ count : ℕ} → m ≤ most-rows → ((v : ℕ) → v < m → bit v c ≤ 1) →
+    c < n → Columns bit m n c h count → Passed bit m c h w instructions h′ →
+    Columns bit m n (c + 1) h′ (count + (2 + 2 * h + instructions + h′))
+columns-more {bit} {m} {n} {c} {h} {w} {instructions} {h′} {count} few ok l s p =
     let k : ℕ = rowBits m in
     let rows = marks k m (λ v. bit v c) m 0 in
     record {
@@ -159,6 +147,7 @@ columns-more {bit} {m} {n} {c} {h} {w} {instructions} {h′} {count} few l s p =
             arith,
             s .is,
             p .counted .marking,
+            marks-count k m (λ v. bit v c) m ok (row-lt m),
             length-append (blocks c (column k m bit)) (split k m c h ++ rows ++ keep k m w h′),
             length-append (split k m c h ++ rows) (keep k m w h′),
             length-append (split k m c h) rows,

@@ -11,7 +11,6 @@ pub mod Compiled
 pub mod Places
 pub mod Effects
 pub mod Columns
-pub mod Lane
 pub mod Computes
 -- code: what the functions write
 pub mod Emitting

@@ -4,7 +4,6 @@ use Prim.Native.Nat.{ℕ, zero, suc, _+_, _*_, _-_, _/_, _%_, _^_, _≤_, _<_, m
 use mathlib.Core.Path.{_≡_, refl, ap, _∙_}
 use mathlib.Core.Logic.{_≢_}
 use native.Mathlib.Nat.{add-zero}
-use native.Mathlib.Numerals.{add-one}
 use native.Mathlib.Omega.{arith}
 use Rattle.laws.specs.Lay.{upto}
 use Rattle.laws.specs.From.{from, upto-from}
@@ -13,12 +12,12 @@ use Rattle.walk.specs.Steps.{Below, scan-below}
 
 -- ---- what is told, bit by bit
 -- H: there is a sample
-unfoldable pub hitBit : Answer → ℕ
+abbrev pub hitBit : Answer → ℕ
 hitBit (sample v) = 1
 hitBit missed = 0
 
 -- V_t: bit t of it
-unfoldable pub sampleBit : ℕ → Answer → ℕ
+abbrev pub sampleBit : ℕ → Answer → ℕ
 sampleBit t (sample v) = v / 2 ^ t % 2
 sampleBit t missed = 0
 
@@ -27,12 +26,9 @@ unfoldable pub answerAt : Place → Answer
 answerAt (found v) = sample v
 answerAt (left d) = missed
 
--- 1 if the two are one
+-- 1 if the two are one, and 0 otherwise
 unfoldable pub same : ℕ → ℕ → ℕ
-same zero zero = 1
-same zero (suc d) = 0
-same (suc i) zero = 0
-same (suc i) (suc d) = same i d
+same i d = 1 - ((i - d) + (d - i))
 
 -- X_i: the distance is i
 unfoldable pub isAt : ℕ → Place → ℕ
@@ -64,31 +60,27 @@ placeAfter bit m b (suc c) = onto (doubled (b c) (placeAfter bit m b c)) (λ d. 
 -- ---- the bits of what it does
 same-le : (i d : ℕ) → same i d ≤ 1
 unfolding same
-same-le zero zero = omega arith
-same-le zero (suc d) = omega arith
-same-le (suc i) zero = omega arith
-same-le (suc i) (suc d) = same-le i d
+same-le i d = omega arith
 
 same-not : (i d : ℕ) → i ≢ d → same i d ≡ 0
 unfolding same
-same-not zero zero n = absurd (n refl)
-same-not zero (suc d) n = refl
-same-not (suc i) zero n = refl
-same-not (suc i) (suc d) n = same-not i d (omega arith)
+same-not i d n = omega arith
+
+same-one : same 0 0 ≡ 1
+unfolding same
+same-one = refl
+
+same-step : (i d : ℕ) → same (suc i) (suc d) ≡ same i d
+unfolding same
+same-step i d = omega arith
 
 same-even : (i d : ℕ) → same (2 * i) (2 * d) ≡ same i d
 unfolding same
-same-even zero zero = refl
-same-even zero (suc d) = same-not 0 (2 * suc d) (omega arith)
-same-even (suc i) zero = same-not (2 * suc i) 0 (omega arith)
-same-even (suc i) (suc d) =
-    let e : 2 * suc i ≡ suc (suc (2 * i)) = omega arith in
-    let f : 2 * suc d ≡ suc (suc (2 * d)) = omega arith in
-    rw (e, f) (same-even i d)
+same-even i d = omega arith
 
 same-odd : (i d : ℕ) → same (2 * i + 1) (2 * d + 1) ≡ same i d
 unfolding same
-same-odd i d = rw (add-one (2 * i), add-one (2 * d)) (same-even i d)
+same-odd i d = omega arith
 
 pub doubled-even : (b i : ℕ) (o : Place) → b ≤ 1 → min (isAt i o) (1 - b) ≡ isAt (2 * i) (doubled b o)
 unfolding isAt doubled
@@ -110,22 +102,22 @@ doubled-answer b (found v) = refl
 doubled-answer b (left d) = refl
 
 pub meeting-hit : (v : ℕ) (o : Place) → max (hitBit (answerAt o)) (isAt 0 o) ≡ hitBit (answerAt (meeting v o))
-unfolding hitBit answerAt isAt meeting same
+unfolding answerAt isAt meeting
 meeting-hit v (found u) = refl
-meeting-hit v (left zero) = refl
-meeting-hit v (left (suc d)) = refl
+meeting-hit v (left zero) = rw same-one
+meeting-hit v (left (suc d)) = rw (same-not 0 (suc d) (omega arith))
 
 pub meeting-row : (v t : ℕ) (o : Place) → max (sampleBit t (answerAt o)) (v / 2 ^ t % 2 * isAt 0 o) ≡ sampleBit t (answerAt (meeting v o))
-unfolding sampleBit answerAt isAt meeting same
+unfolding answerAt isAt meeting
 meeting-row v t (found u) = omega arith
-meeting-row v t (left zero) = omega arith
-meeting-row v t (left (suc d)) = omega arith
+meeting-row v t (left zero) = rw same-one (omega arith)
+meeting-row v t (left (suc d)) = rw (same-not 0 (suc d) (omega arith)) (omega arith)
 
 pub meeting-at : (v i : ℕ) (o : Place) → isAt (suc i) o ≡ isAt i (meeting v o)
-unfolding isAt meeting same
+unfolding isAt meeting
 meeting-at v i (found u) = refl
-meeting-at v i (left zero) = refl
-meeting-at v i (left (suc d)) = refl
+meeting-at v i (left zero) = same-not (suc i) 0 (omega arith)
+meeting-at v i (left (suc d)) = same-step i d
 
 -- ---- the rows of a column, from a place on
 pub onto-none : (o : Place) → o ≡ onto o left

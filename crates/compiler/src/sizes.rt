@@ -9,7 +9,7 @@ ghost use Rattle.programs.specs.Limits.{most-instructions};
 ghost use Rattle.programs.specs.Header.{header-length};
 ghost use Rattle.compiler.specs.Translation.{column, rowBits};
 ghost use Rattle.compiler.specs.Room.{Roomy};
-ghost use Rattle.compiler.specs.EmittingColumns.{Counted, Live, packedRows, Passed};
+ghost use Rattle.compiler.specs.EmittingColumns.{Live, Marked, packedRows, Passed};
 ghost use Rattle.compiler.specs.EmittingProgram.{Measured, Packed};
 use files::bit;
 use files::width;
@@ -42,7 +42,7 @@ struct Marks {
 // Counts column c of m packed rows: each set row v takes one instruction for H and one for each set bit of v.
 fn count_marks(bytes: &[u8], stride: usize, m: usize, c: usize) -> Marks
     requires { ⌜ (m ≤ most-rows) × (stride ≤ most-columns) ⌝ }
-    ensures { λ r. ⌜ Counted (packedRows (now (bytes .entry)) stride) m c (r .rows) (r .instructions) ⌝ }
+    ensures { λ r. ⌜ Marked (λ v. packedRows (now (bytes .entry)) stride v c) m (r .rows) (r .instructions) ⌝ }
 {
     let mut rows: usize = 0;
     let mut instructions: usize = 0;

@@ -4,9 +4,6 @@ use Rattle.compiler.specs.EmittingColumns.{split-space, marks-space, kee
 use Rattle.compiler.proofs.columns.column.Statement.{statement}
 use Rattle.compiler.proofs.columns.column.Tie as tie
 
-count-column-requires : tie.Need-count-column-requires
-count-column-requires c κs = search needs
-
 split-requires : tie.Need-split-requires
 split-requires c κs =
     let counted = c .before in
@@ -32,9 +29,6 @@ keep-requires c κs =
       search needs,
     )
 
-same-length : tie.Need-same-length
-same-length c = search needs
-
 returns : tie.Need-returns
 returns c =
     let third = c .before .before in
@@ -47,9 +41,9 @@ pub column-spec : {M : Type 1} → statement M
 column-spec =
     tie.close
     (tie.spec
-    count-column-requires
+    (λ c κs. search needs)
     split-requires
     marks-requires
     keep-requires
-    same-length
+    (λ c. search needs)
     returns)

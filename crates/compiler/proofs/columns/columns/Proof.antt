@@ -33,20 +33,11 @@ column-requires c κs =
       omega (arith, loop .inv .0 .is, room),
     )
 
-add-c : tie.Need-add-c Inv-loop μ-loop
-add-c c = search needs
-
-loop-less : tie.Need-loop-less Inv-loop μ-loop
-loop-less c = search needs
-
 loop-again : tie.Need-loop-again Inv-loop μ-loop
 loop-again c =
     let part = c .before .before in
     let test = part .before .before in
     (part .column .ensures .1, parts-more (test .before .loop .inv .1) (test .loop-test .taken) (part .column .ensures .0))
-
-same-length : tie.Need-same-length Inv-loop μ-loop
-same-length c = search needs
 
 returns : tie.Need-returns Inv-loop μ-loop
 returns c = parts-done (c .before .loop .inv .1) (c .loop-test .left)
@@ -59,8 +50,8 @@ columns-spec =
     μ-loop
     loop-holds
     column-requires
-    add-c
-    loop-less
+    (λ c. search needs)
+    (λ c. search needs)
     loop-again
-    same-length
+    (λ c. search needs)
     returns)

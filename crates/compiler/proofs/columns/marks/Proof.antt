@@ -14,20 +14,8 @@ abbrev μ-loop : tie.MeasureT-loop
 loop-holds : tie.Need-loop-holds Inv-loop μ-loop
 loop-holds c = rows-none (c .before .before .pre .0)
 
-sub-v : tie.Need-sub-v Inv-loop μ-loop
-sub-v c = search needs
-
-sub-v-2 : tie.Need-sub-v-2 Inv-loop μ-loop
-sub-v-2 c = search needs
-
 mul-bit : tie.Need-mul-bit Inv-loop μ-loop
 mul-bit c = record { fits = row-fits _ _ (search needs) (search needs) }
-
-bit-requires : tie.Need-bit-requires Inv-loop μ-loop
-bit-requires c κs = search needs
-
-cast-b : tie.Need-cast-b Inv-loop μ-loop
-cast-b c = search needs
 
 mark-if-requires : tie.Need-mark-if-requires Inv-loop μ-loop
 mark-if-requires c κs =
@@ -35,15 +23,6 @@ mark-if-requires c κs =
     let test = read .before in
     let space = row-space (test .before .loop .inv) (test .loop-test .taken) (read .bit .ensures .0) (read .bit .ensures .1) in
     (space, search needs, search needs)
-
-add-j : tie.Need-add-j Inv-loop μ-loop
-add-j c = search needs
-
-add-i : tie.Need-add-i Inv-loop μ-loop
-add-i c = search needs
-
-loop-less : tie.Need-loop-less Inv-loop μ-loop
-loop-less c = search needs
 
 loop-again : tie.Need-loop-again Inv-loop μ-loop
 loop-again c =
@@ -65,15 +44,15 @@ marks-spec =
     Inv-loop
     μ-loop
     loop-holds
-    sub-v
-    sub-v-2
+    (λ c. search needs)
+    (λ c. search needs)
     mul-bit
-    bit-requires
-    cast-b
+    (λ c κs. search needs)
+    (λ c. search needs)
     mark-if-requires
-    add-j
-    add-i
-    loop-less
+    (λ c. search needs)
+    (λ c. search needs)
+    (λ c. search needs)
     loop-again
     same-length
     returns)

@@ -4,33 +4,6 @@ use Rattle.compiler.specs.Emitting.{emitted-after}
 use Rattle.compiler.proofs.parts.apart.Statement.{statement}
 use Rattle.compiler.proofs.parts.apart.Tie as tie
 
-reg-x-requires : tie.Need-reg-x-requires
-reg-x-requires c κs = search needs
-
-mul-reg-y : tie.Need-mul-reg-y
-mul-reg-y c = search needs
-
-reg-y-requires : tie.Need-reg-y-requires
-reg-y-requires c κs = search needs
-
-put-requires : tie.Need-put-requires
-put-requires c κs = search needs
-
-mul-reg-y-2 : tie.Need-mul-reg-y-2
-mul-reg-y-2 c = search needs
-
-add-reg-y : tie.Need-add-reg-y
-add-reg-y c = search needs
-
-reg-y-requires-2 : tie.Need-reg-y-requires-2
-reg-y-requires-2 c κs = search needs
-
-put-requires-2 : tie.Need-put-requires-2
-put-requires-2 c κs = search needs
-
-same-length : tie.Need-same-length
-same-length c = search needs
-
 returns : tie.Need-returns
 returns c =
     let second = c .before .before in
@@ -44,13 +17,13 @@ pub apart-spec : {M : Type 1} → statement M
 apart-spec =
     tie.close
     (tie.spec
-    reg-x-requires
-    mul-reg-y
-    reg-y-requires
-    put-requires
-    mul-reg-y-2
-    add-reg-y
-    reg-y-requires-2
-    put-requires-2
-    same-length
+    (λ c κs. search needs)
+    (λ c. search needs)
+    (λ c κs. search needs)
+    (λ c κs. search needs)
+    (λ c. search needs)
+    (λ c. search needs)
+    (λ c κs. search needs)
+    (λ c κs. search needs)
+    (λ c. search needs)
     returns)

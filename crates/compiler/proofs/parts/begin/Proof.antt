@@ -12,9 +12,6 @@ Inv-loop k out₀ at to₀ t₀ out to t = Parts clear k to₀ out₀ t out to
 abbrev μ-loop : tie.MeasureT-loop
 μ-loop k out₀ at to₀ t₀ out to t = k - t
 
-reg-x-requires : tie.Need-reg-x-requires Inv-loop μ-loop
-reg-x-requires c κs = search needs
-
 put-requires : tie.Need-put-requires Inv-loop μ-loop
 unfolding begin
 put-requires c κs = search needs
@@ -27,19 +24,10 @@ loop-holds : tie.Need-loop-holds Inv-loop μ-loop
 unfolding begin
 loop-holds c = parts-none (search needs)
 
-reg-v-requires : tie.Need-reg-v-requires Inv-loop μ-loop
-reg-v-requires c κs = search needs
-
 put-requires-3 : tie.Need-put-requires-3 Inv-loop μ-loop
 put-requires-3 c κs =
     let test = c .before .before in
     record { fits = parts-space (test .before .loop .inv) (test .loop-test .taken) .fits }
-
-add-t : tie.Need-add-t Inv-loop μ-loop
-add-t c = search needs
-
-loop-less : tie.Need-loop-less Inv-loop μ-loop
-loop-less c = search needs
 
 loop-again : tie.Need-loop-again Inv-loop μ-loop
 loop-again c =
@@ -47,9 +35,6 @@ loop-again c =
     let register = put .before .before in
     let test = register .before in
     parts-more (test .before .loop .inv) (test .loop-test .taken) (rw (register .reg-v .ensures) at (put .put3 .ensures))
-
-same-length : tie.Need-same-length Inv-loop μ-loop
-same-length c = search needs
 
 returns : tie.Need-returns Inv-loop μ-loop
 unfolding begin
@@ -65,14 +50,14 @@ begin-spec =
     (tie.spec
     Inv-loop
     μ-loop
-    reg-x-requires
+    (λ c κs. search needs)
     put-requires
     put-requires-2
     loop-holds
-    reg-v-requires
+    (λ c κs. search needs)
     put-requires-3
-    add-t
-    loop-less
+    (λ c. search needs)
+    (λ c. search needs)
     loop-again
-    same-length
+    (λ c. search needs)
     returns)

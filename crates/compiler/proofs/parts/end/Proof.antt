@@ -20,25 +20,10 @@ loop-holds : tie.Need-loop-holds Inv-loop μ-loop
 unfolding end
 loop-holds c = parts-none (search needs)
 
-add-t10 : tie.Need-add-t10 Inv-loop μ-loop
-add-t10 c = search needs
-
-cast-t11 : tie.Need-cast-t11 Inv-loop μ-loop
-cast-t11 c = search needs
-
-reg-v-requires : tie.Need-reg-v-requires Inv-loop μ-loop
-reg-v-requires c κs = search needs
-
 put-requires-2 : tie.Need-put-requires-2 Inv-loop μ-loop
 put-requires-2 c κs =
     let test = c .before .before in
     record { fits = parts-space (test .before .loop .inv) (test .loop-test .taken) .fits }
-
-add-t : tie.Need-add-t Inv-loop μ-loop
-add-t c = search needs
-
-loop-less : tie.Need-loop-less Inv-loop μ-loop
-loop-less c = search needs
 
 loop-again : tie.Need-loop-again Inv-loop μ-loop
 loop-again c =
@@ -46,9 +31,6 @@ loop-again c =
     let register = put .before .before in
     let test = register .before in
     parts-more (test .before .loop .inv) (test .loop-test .taken) (rw (register .reg-v .ensures) at (put .put2 .ensures))
-
-same-length : tie.Need-same-length Inv-loop μ-loop
-same-length c = search needs
 
 returns : tie.Need-returns Inv-loop μ-loop
 unfolding end
@@ -62,12 +44,12 @@ end-spec =
     μ-loop
     put-requires
     loop-holds
-    add-t10
-    cast-t11
-    reg-v-requires
+    (λ c. search needs)
+    (λ c. search needs)
+    (λ c κs. search needs)
     put-requires-2
-    add-t
-    loop-less
+    (λ c. search needs)
+    (λ c. search needs)
     loop-again
-    same-length
+    (λ c. search needs)
     returns)

@@ -16,25 +16,10 @@ loop-holds : tie.Need-loop-holds Inv-loop μ-loop
 unfolding keep
 loop-holds c = parts-none (c .before .pre .0)
 
-reg-x-requires : tie.Need-reg-x-requires Inv-loop μ-loop
-reg-x-requires c κs = search needs
-
-add-reg-y : tie.Need-add-reg-y Inv-loop μ-loop
-add-reg-y c = search needs
-
-reg-y-requires : tie.Need-reg-y-requires Inv-loop μ-loop
-reg-y-requires c κs = search needs
-
 put-requires : tie.Need-put-requires Inv-loop μ-loop
 put-requires c κs =
     let test = c .before .before .before in
     record { fits = parts-space (test .before .loop .inv) (test .loop-test .taken) .fits }
-
-add-i : tie.Need-add-i Inv-loop μ-loop
-add-i c = search needs
-
-loop-less : tie.Need-loop-less Inv-loop μ-loop
-loop-less c = search needs
 
 loop-again : tie.Need-loop-again Inv-loop μ-loop
 loop-again c =
@@ -43,9 +28,6 @@ loop-again c =
     let x = y .before in
     let test = x .before in
     parts-more (test .before .loop .inv) (test .loop-test .taken) (rw (x .reg-x .ensures, y .reg-y .ensures) at (put .put .ensures))
-
-same-length : tie.Need-same-length Inv-loop μ-loop
-same-length c = search needs
 
 returns : tie.Need-returns Inv-loop μ-loop
 unfolding keep
@@ -58,12 +40,12 @@ keep-spec =
     Inv-loop
     μ-loop
     loop-holds
-    reg-x-requires
-    add-reg-y
-    reg-y-requires
+    (λ c κs. search needs)
+    (λ c. search needs)
+    (λ c κs. search needs)
     put-requires
-    add-i
-    loop-less
+    (λ c. search needs)
+    (λ c. search needs)
     loop-again
-    same-length
+    (λ c. search needs)
     returns)

@@ -14,9 +14,6 @@ Inv-loop k m v j out₀ at y to₀ t₀ out to t = (y ≡ regY k m j) × Parts (
 abbrev μ-loop : tie.MeasureT-loop
 μ-loop k m v j out₀ at y to₀ t₀ out to t = k - t
 
-reg-y-requires : tie.Need-reg-y-requires Inv-loop μ-loop
-reg-y-requires c κs = search needs
-
 put-requires : tie.Need-put-requires Inv-loop μ-loop
 unfolding mark
 put-requires c κs = search needs
@@ -25,24 +22,12 @@ loop-holds : tie.Need-loop-holds Inv-loop μ-loop
 unfolding mark
 loop-holds c = (search needs, parts-none (search needs))
 
-reg-v-requires : tie.Need-reg-v-requires Inv-loop μ-loop
-reg-v-requires c κs = search needs
-
-shr-put-if : tie.Need-shr-put-if Inv-loop μ-loop
-shr-put-if c = search needs
-
 put-if-requires : tie.Need-put-if-requires Inv-loop μ-loop
 put-if-requires c κs =
     let register = c .before in
     let test = register .before in
     let inv = test .before .loop .inv in
     rw (and-one, register .reg-v .ensures, inv .0) (parts-space (inv .1) (test .loop-test .taken))
-
-add-t : tie.Need-add-t Inv-loop μ-loop
-add-t c = search needs
-
-loop-less : tie.Need-loop-less Inv-loop μ-loop
-loop-less c = search needs
 
 loop-again : tie.Need-loop-again Inv-loop μ-loop
 loop-again c =
@@ -52,9 +37,6 @@ loop-again c =
     let inv = test .before .loop .inv in
     let next = rw (and-one, register .reg-v .ensures, inv .0) at (put .put-if .ensures) in
     (inv .0, parts-more (inv .1) (test .loop-test .taken) next)
-
-same-length : tie.Need-same-length Inv-loop μ-loop
-same-length c = search needs
 
 returns : tie.Need-returns Inv-loop μ-loop
 unfolding mark
@@ -69,14 +51,14 @@ mark-spec =
     (tie.spec
     Inv-loop
     μ-loop
-    reg-y-requires
+    (λ c κs. search needs)
     put-requires
     loop-holds
-    reg-v-requires
-    shr-put-if
+    (λ c κs. search needs)
+    (λ c. search needs)
     put-if-requires
-    add-t
-    loop-less
+    (λ c. search needs)
+    (λ c. search needs)
     loop-again
-    same-length
+    (λ c. search needs)
     returns)

@@ -12,9 +12,6 @@ Inv-loop k m c h out₀ at to₀ i₀ out to i = Parts (apart k m) h to₀ out�
 abbrev μ-loop : tie.MeasureT-loop
 μ-loop k m c h out₀ at to₀ i₀ out to i = h - i
 
-cast-t9 : tie.Need-cast-t9 Inv-loop μ-loop
-cast-t9 c = search needs
-
 put-requires : tie.Need-put-requires Inv-loop μ-loop
 unfolding split
 put-requires c κs = search needs
@@ -30,20 +27,11 @@ loop-holds c = parts-none (search needs)
 apart-requires : tie.Need-apart-requires Inv-loop μ-loop
 apart-requires c κs = (parts-space (c .before .before .loop .inv) (c .before .loop-test .taken), search needs, search needs)
 
-add-i : tie.Need-add-i Inv-loop μ-loop
-add-i c = search needs
-
-loop-less : tie.Need-loop-less Inv-loop μ-loop
-loop-less c = search needs
-
 loop-again : tie.Need-loop-again Inv-loop μ-loop
 loop-again c =
     let part = c .before .before in
     let test = part .before .before in
     parts-more (test .before .loop .inv) (test .loop-test .taken) (part .apart .ensures)
-
-same-length : tie.Need-same-length Inv-loop μ-loop
-same-length c = search needs
 
 returns : tie.Need-returns Inv-loop μ-loop
 unfolding split
@@ -58,13 +46,13 @@ split-spec =
     (tie.spec
     Inv-loop
     μ-loop
-    cast-t9
+    (λ c. search needs)
     put-requires
     put-requires-2
     loop-holds
     apart-requires
-    add-i
-    loop-less
+    (λ c. search needs)
+    (λ c. search needs)
     loop-again
-    same-length
+    (λ c. search needs)
     returns)

@@ -21,32 +21,14 @@ count-column-requires c κs =
     let room = c .before .before .before .pre .3 .room (loop .c) (c .loop-test .taken) in
     (search needs, search needs, loop .inv .live, omega (arith, loop .inv .live .is, room))
 
-mul-count : tie.Need-mul-count Inv-loop μ-loop
-mul-count c = search needs
-
-add-count : tie.Need-add-count Inv-loop μ-loop
-add-count c = search needs
-
-add-count-2 : tie.Need-add-count-2 Inv-loop μ-loop
-add-count-2 c = search needs
-
-add-count-3 : tie.Need-add-count-3 Inv-loop μ-loop
-add-count-3 c = search needs
-
-add-count-4 : tie.Need-add-count-4 Inv-loop μ-loop
-add-count-4 c = search needs
-
-add-c : tie.Need-add-c Inv-loop μ-loop
-add-c c = search needs
-
-loop-less : tie.Need-loop-less Inv-loop μ-loop
-loop-less c = search needs
-
 loop-again : tie.Need-loop-again Inv-loop μ-loop
 loop-again c =
     let counted = c .before .before in
     let test = counted .before in
-    columns-more (search needs) (test .loop-test .taken) (test .before .loop .inv) (counted .count-column .ensures)
+    let loop = test .before in
+    let bits = loop .before .before .pre .3 .bits in
+    columns-more (search needs) (λ v l. bits v (loop .loop .c) l (test .loop-test .taken)) (test .loop-test .taken) (loop .loop .inv)
+    (counted .count-column .ensures)
 
 returns : tie.Need-returns Inv-loop μ-loop
 returns c = columns-done (c .loop-test .left) (c .before .loop .inv)
@@ -59,12 +41,12 @@ count-columns-spec =
     μ-loop
     loop-holds
     count-column-requires
-    mul-count
-    add-count
-    add-count-2
-    add-count-3
-    add-count-4
-    add-c
-    loop-less
+    (λ c. search needs)
+    (λ c. search needs)
+    (λ c. search needs)
+    (λ c. search needs)
+    (λ c. search needs)
+    (λ c. search needs)
+    (λ c. search needs)
     loop-again
     returns)

@@ -4,12 +4,6 @@ use Rattle.compiler.specs.EmittingProgram.{countable, measured}
 use Rattle.compiler.proofs.sizes.measure.Statement.{statement}
 use Rattle.compiler.proofs.sizes.measure.Tie as tie
 
-row-bits-requires : tie.Need-row-bits-requires
-row-bits-requires c κs = search needs
-
-width-requires : tie.Need-width-requires
-width-requires c κs = search needs
-
 count-columns-requires : tie.Need-count-columns-requires
 count-columns-requires c κs = (search needs, search needs, search needs, rw (c .width .ensures) (c .before .before .before .pre .roomy))
 
@@ -29,8 +23,8 @@ pub measure-spec : {M : Type 1} → statement M
 measure-spec =
     tie.close
     (tie.spec
-    row-bits-requires
-    width-requires
+    (λ c κs. search needs)
+    (λ c κs. search needs)
     count-columns-requires
     program-length-requires
     returns)

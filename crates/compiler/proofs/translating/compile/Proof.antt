@@ -9,15 +9,6 @@ use Rattle.compiler.specs.EmittingProgram.{checked-packed, compile-refus
 use Rattle.compiler.proofs.translating.compile.Statement.{statement}
 use Rattle.compiler.proofs.translating.compile.Tie as tie
 
-check-requires : tie.Need-check-requires
-check-requires c κs = search needs
-
-enum-known-why : tie.Need-enum-known-why
-enum-known-why c = search needs
-
-enum-known-rows : tie.Need-enum-known-rows
-enum-known-rows c = search needs
-
 sub-bytes : tie.Need-sub-bytes
 sub-bytes c =
     let found = c .before in
@@ -27,9 +18,6 @@ part-bytes-start : tie.Need-part-bytes-start
 part-bytes-start c =
     let found = c .before in
     omega (arith, checked-whole _ _ (rw (found .rows .given .1) at (found .before .before .check .ensures)) .long)
-
-part-bytes-end : tie.Need-part-bytes-end
-part-bytes-end c = search needs
 
 measure-requires : tie.Need-measure-requires
 measure-requires c κs =
@@ -59,9 +47,6 @@ returns-2 c =
     let refused = c .before in
     ends-refused _ _ _ _ _ (compile-refused _ _ _ (rw (refused .why .given .1) at (refused .before .before .check .ensures)))
 
-same-length : tie.Need-same-length
-same-length c = search needs
-
 returns-3 : tie.Need-returns-3
 returns-3 c =
     let test = c .before .before .before .before in
@@ -76,15 +61,15 @@ pub compile-spec : {M : Type 1} → statement M
 compile-spec =
     tie.close
     (tie.spec
-    check-requires
-    enum-known-why
-    enum-known-rows
+    (λ c κs. search needs)
+    (λ c. search needs)
+    (λ c. search needs)
     sub-bytes
     part-bytes-start
-    part-bytes-end
+    (λ c. search needs)
     measure-requires
     returns
     write-requires
     returns-2
-    same-length
+    (λ c. search needs)
     returns-3)

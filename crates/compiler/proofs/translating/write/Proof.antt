@@ -10,18 +10,12 @@ describe-requires c κs =
     let asked = c .before .before .pre in
     planned (asked .0) (asked .1) (asked .2) .header
 
-write-header-requires : tie.Need-write-header-requires
-write-header-requires c κs = search needs
-
 begin-requires : tie.Need-begin-requires
 begin-requires c κs =
     let head = c .before .before .before in
     let asked = head .before .before .before .before .before .pre in
     let plan = planned (asked .0) (asked .1) (asked .2) in
     (record { fits = omega (arith, plan .parts) }, plan .fit .outputs)
-
-width-requires : tie.Need-width-requires
-width-requires c κs = search needs
 
 columns-requires : tie.Need-columns-requires
 columns-requires c κs =
@@ -45,9 +39,6 @@ end-requires c κs =
     let written = rw (laid .before .before .width .ensures) at (laid .columns .ensures) in
     (record { fits = omega (arith, plan .parts, written .behind) }, plan .fit .outputs)
 
-same-length : tie.Need-same-length
-same-length c = search needs
-
 returns : tie.Need-returns
 returns c =
     let ended = c .before .before in
@@ -64,10 +55,10 @@ write-spec =
     tie.close
     (tie.spec
     describe-requires
-    write-header-requires
+    (λ c κs. search needs)
     begin-requires
-    width-requires
+    (λ c κs. search needs)
     columns-requires
     end-requires
-    same-length
+    (λ c. search needs)
     returns)
