@@ -104,7 +104,7 @@ module _ (inputs : List ℕ) (k m : ℕ) where
   -- the bit of column c is read
   split-run : (c h : ℕ) (o : Place) (s : State ℕ) → getD inputs c 0 ≤ 1 → h ≤ m → Stands k m h o s →
       Scans k m (2 * h) 0 (doubled (getD inputs c 0) o) (run inputs (split k m c h) s)
-  unfolding exec split
+  unfolding exec
   split-run c h o s bit few here =
       let b : ℕ = getD inputs c 0 in
       let long = here .tells .long in
@@ -157,7 +157,7 @@ module _ (inputs : List ℕ) (k m : ℕ) where
 
       mark-run : (n : ℕ) (o : Place) (s : State ℕ) → j < n → Scans k m n j o s →
           Scans k m n (suc j) (meeting v o) (run inputs (mark k m v j) s)
-      unfolding exec mark
+      unfolding exec
       mark-run n o s l here =
           let one : List Instruction = Or regH regH (regY k m j) ∷ [] in
           let s′ : State ℕ = run inputs one s in
@@ -228,7 +228,6 @@ module _ (inputs : List ℕ) (k m : ℕ) where
 
     keep-run : (n g : ℕ) (o : Place) (s : State ℕ) → w + g ≤ n → g ≤ m → Scans k m n w o s →
         Stands k m g o (run inputs (keep k m w g) s)
-    unfolding keep
     keep-run n g o s h few here =
         record {
           tells =

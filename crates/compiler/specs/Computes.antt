@@ -54,7 +54,7 @@ module _ (inputs : List ℕ) (k m : ℕ) where
 
   -- whatever the registers held
   begin-run : (s : State ℕ) → 1 ≤ m → 3 + k + 3 * m ≤ length (s .registers) → Stands k m 1 (left 0) (run inputs (begin k) s)
-  unfolding exec begin answerAt isAt same
+  unfolding exec answerAt isAt same
   begin-run s some long =
       let one : List Instruction = Ones (regX k 0) ∷ [] in
       let two : List Instruction = Ones (regX k 0) ∷ Zero regH ∷ [] in
@@ -78,12 +78,11 @@ module _ (inputs : List ℕ) (k m : ℕ) where
       }
 
   end-hit : (s : State ℕ) → 1 + k ≤ length (s .outputs) → out 0 (run inputs (end k) s) ≡ reg regH s
-  unfolding end
   end-hit s wide =
       output-first inputs 0 regH (blocks k tell) s (omega arith) (each-blocks (Passes 0) tell k (λ t l. ((omega arith, tt), tt)))
 
   end-row : (s : State ℕ) → 1 + k ≤ length (s .outputs) → (t : ℕ) → t < k → out (1 + t) (run inputs (end k) s) ≡ reg (regV t) s
-  unfolding exec end
+  unfolding exec
   end-row s wide t l =
       let one : List Instruction = Output 0 regH ∷ [] in
       let s′ : State ℕ = run inputs one s in

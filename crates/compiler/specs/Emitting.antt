@@ -2,7 +2,8 @@
 use Prim.Native.Nat.{ℕ, zero, suc, _+_, _*_, _-_, _≤_, _<_}
 use mathlib.Core.Path.{_≡_, refl, sym, ap, _∙_, subst}
 use mathlib.Core.List.{List, [], _∷_, _++_, append-assoc, append-nil}
-use native.Mathlib.Nat.{add-zero}
+use mathlib.Core.Logic.{⊎-elim}
+use native.Mathlib.Nat.{eq-or-lt-of-le, le-of-suc-le-suc}
 use native.Mathlib.Omega.{arith}
 use lib.ListN.{length, length-append}
 use Rattle.laws.specs.Lay.{blocks, blocks-more, layAt, layAt-nothing, layAt-after, length-layAt}
@@ -49,17 +50,14 @@ length-code [] = refl
 length-code (i ∷ is) = rw (length-append (instructionBytes i) (codeBytes is)) (omega (arith, length-instruction i, length-code is))
 
 -- the first i parts and the next one are within the whole
-size-more : (f : ℕ → List Instruction) (i d : ℕ) → size (blocks i f) + size (f i) ≤ size (blocks (suc i + d) f)
-unfolding blocks
-size-more f i zero = rw (add-zero (suc i)) (omega (arith, size-append (blocks i f) (f i)))
-size-more f i (suc d) =
-    let e : suc i + suc d ≡ suc (suc i + d) = omega arith in
-    rw e (omega (arith, size-more f i d, size-append (blocks (suc i + d) f) (f (suc i + d))))
-
 size-part : (f : ℕ → List Instruction) (n i : ℕ) → i < n → size (blocks i f) + size (f i) ≤ size (blocks n f)
-size-part f n i h =
-    let e : suc i + (n - suc i) ≡ n = omega arith in
-    rw e at (size-more f i (n - suc i))
+unfolding blocks
+size-part f zero i h = absurd (omega arith)
+size-part f (suc n) i h =
+    ⊎-elim
+    (λ (q : i ≡ n). rw q (omega (arith, size-append (blocks n f) (f n))))
+    (λ (q : i < n). omega (arith, size-append (blocks n f) (f n), size-part f n i q))
+    (eq-or-lt-of-le (le-of-suc-le-suc h))
 
 -- ---- nothing, one instruction, one part after another
 pub emitted-none : {at : ℕ} {is : List Instruction} {buf : List ℕ} → Space at is buf → Emitted at [] buf buf at

@@ -41,23 +41,18 @@ module _ (k m n : ℕ) where
   In i = Fits (record { registers = 3 + k + 3 * m; inputs = n; outputs = 1 + k; count = 0 }) i
 
   begin-in : 1 ≤ m → Each In (begin k)
-  unfolding begin
   begin-in h = (omega arith, (omega arith, each-blocks In clear k (λ t l. omega arith)))
 
   split-in : (c h : ℕ) → c < n → h ≤ m → Each In (split k m c h)
-  unfolding split
   split-in c h l a = (omega arith, (omega arith, each-blocks In (apart k m) h (λ i b. omega arith)))
 
   mark-in : (v j : ℕ) → j < 2 * m → Each In (mark k m v j)
-  unfolding mark
   mark-in v j l = (omega arith, each-blocks In (spell k m v j) k (λ t h. each-if In (v / 2 ^ t % 2) _ (λ b. omega arith)))
 
   keep-in : (w h : ℕ) → h ≤ m → w + h ≤ 2 * m → Each In (keep k m w h)
-  unfolding keep
   keep-in w h a b = each-blocks In (carry k m w) h (λ i l. omega arith)
 
   end-in : Each In (end k)
-  unfolding end
   end-in = (omega arith, each-blocks In tell k (λ t l. omega arith))
 
   module _ (bit : ℕ → ℕ → ℕ) (r : Roomy m n bit) where
@@ -91,7 +86,6 @@ outputs-set (suc n) t h =
     (eq-or-lt-of-le (le-of-suc-le-suc h))
 
 end-sets : (k o : ℕ) → o < 1 + k → Sets o (end k)
-unfolding end
 end-sets k zero h = inl (inl refl)
 end-sets k (suc t) h =
     let e : 1 + t ≡ suc t = omega arith in

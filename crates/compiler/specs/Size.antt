@@ -2,7 +2,8 @@
 use Prim.Native.Nat.{ℕ, zero, suc, _+_, _*_, _-_, _/_, _%_, _^_, _≤_, _<_}
 use mathlib.Core.Path.{_≡_, refl, sym, ap, _∙_}
 use mathlib.Core.List.{List, [], _∷_, _++_}
-use native.Mathlib.Nat.{add-zero, pow-succ'}
+use mathlib.Core.Logic.{⊎-elim}
+use native.Mathlib.Nat.{eq-or-lt-of-le, le-of-suc-le-suc, pow-succ'}
 use native.Mathlib.Omega.{arith}
 use lib.Count as Count
 use lib.ListN.{length, length-append}
@@ -33,17 +34,16 @@ unfolding blocks sumTo
 blocks-sum zero f = refl
 blocks-sum (suc n) f = omega (arith, length-append (blocks n f) (f n), blocks-sum n f)
 
-sum-longer : (n d : ℕ) (f : ℕ → ℕ) → sumTo n f ≤ sumTo (n + d) f
-unfolding sumTo
-sum-longer n zero f = omega (arith, ap (λ (x : ℕ). sumTo x f) (add-zero n))
-sum-longer n (suc d) f =
-    let e : n + suc d ≡ suc (n + d) = omega arith in
-    rw e (omega (arith, sum-longer n d f))
-
 sum-up-to : (n k : ℕ) (f : ℕ → ℕ) → n ≤ k → sumTo n f ≤ sumTo k f
-sum-up-to n k f h =
-    let e : n + (k - n) ≡ k = omega arith in
-    rw e at (sum-longer n (k - n) f)
+unfolding sumTo
+sum-up-to n zero f h =
+    let e : n ≡ 0 = omega arith in
+    rw e (omega arith)
+sum-up-to n (suc k) f h =
+    ⊎-elim
+    (λ (q : n ≡ suc k). rw q (omega arith))
+    (λ (q : n < suc k). omega (arith, sum-up-to n k f (le-of-suc-le-suc q)))
+    (eq-or-lt-of-le h)
 
 -- ---- the instructions of each part
 if-length : (b : ℕ) (is : List Instruction) → b ≤ 1 → length (ifSet b is) ≡ b * length is
@@ -59,7 +59,7 @@ if-short (suc b) is = omega arith
 
 module _ (k m : ℕ) where
   mark-length : (v j : ℕ) → length (mark k m v j) ≡ 1 + ones k v
-  unfolding mark ones
+  unfolding ones
   mark-length v j =
       omega (
         arith,
@@ -95,11 +95,9 @@ module _ (k m : ℕ) where
       )
 
   pub split-length : (c h : ℕ) → length (split k m c h) ≡ 2 + 2 * h
-  unfolding split
   split-length c h = omega (arith, length-blocks 2 (apart k m) (λ i. refl) h)
 
   pub keep-length : (w h : ℕ) → length (keep k m w h) ≡ h
-  unfolding keep
   keep-length w h = omega (arith, length-blocks 1 (carry k m w) (λ i. refl) h)
 
   column-short : (bit : ℕ → ℕ → ℕ) (c : ℕ) → 1 ≤ m → length (column k m bit c) ≤ 2 + 3 * m + sumTo m (λ v. 1 + ones k v)
@@ -120,7 +118,6 @@ module _ (k m : ℕ) where
       )
 
   ends-length : length (begin k) + length (end k) ≡ 3 + 2 * k
-  unfolding begin end
   ends-length = omega (arith, length-blocks 1 clear (λ t. refl) k, length-blocks 1 tell (λ t. refl) k)
 
   pub whole-length : (n : ℕ) (bit : ℕ → ℕ → ℕ) →
@@ -230,11 +227,9 @@ size-blocks w f e zero = omega arith
 size-blocks w f e (suc n) = omega (arith, size-append (blocks n f) (f n), size-blocks w f e n, e n)
 
 begin-size : (k : ℕ) → size (begin k) ≡ 6 * (2 + k)
-unfolding begin
 begin-size k = omega (arith, size-blocks 6 clear (λ t. refl) k)
 
 end-size : (k : ℕ) → size (end k) ≡ 8 * (1 + k)
-unfolding end
 end-size k = omega (arith, size-blocks 8 tell (λ t. refl) k)
 
 -- each instruction of a column takes ten, but for its first two, INPUT and NOT, which take eight
@@ -247,15 +242,12 @@ tens (i ∷ is) e = omega (arith, e .0, tens is (e .1))
 
 module _ (k m : ℕ) where
   split-size : (c h : ℕ) → size (split k m c h) + 4 ≡ 10 * length (split k m c h)
-  unfolding split
   split-size c h = omega (arith, tens (blocks h (apart k m)) (each-blocks Ten (apart k m) h (λ i l. (refl, (refl, tt)))))
 
   mark-tens : (v j : ℕ) → Each Ten (mark k m v j)
-  unfolding mark
   mark-tens v j = (refl, each-blocks Ten (spell k m v j) k (λ t l. each-if Ten (v / 2 ^ t % 2) _ (λ b. (refl, tt))))
 
   keep-tens : (w h : ℕ) → Each Ten (keep k m w h)
-  unfolding keep
   keep-tens w h = each-blocks Ten (carry k m w) h (λ i l. (refl, tt))
 
   column-size : (bit : ℕ → ℕ → ℕ) (c : ℕ) → size (column k m bit c) + 4 ≡ 10 * length (column k m bit c)

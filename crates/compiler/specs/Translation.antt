@@ -51,14 +51,14 @@ regY k m j = 3 + k + m + j
 abbrev pub clear : ℕ → List Instruction
 clear t = Zero (regV t) ∷ []
 
-unfoldable pub begin : ℕ → List Instruction
+abbrev pub begin : ℕ → List Instruction
 begin k = Ones (regX k 0) ∷ Zero regH ∷ [] ++ blocks k clear
 
 -- bit c is read, and the distance i becomes 2i or 2i + 1, for each of the h live ones
 abbrev pub apart : ℕ → ℕ → ℕ → List Instruction
 apart k m i = And (regY k m (2 * i)) (regX k i) regN ∷ And (regY k m (2 * i + 1)) (regX k i) regB ∷ []
 
-unfoldable pub split : ℕ → ℕ → ℕ → ℕ → List Instruction
+abbrev pub split : ℕ → ℕ → ℕ → ℕ → List Instruction
 split k m c h = Input regB c ∷ Not regN regB ∷ [] ++ blocks h (apart k m)
 
 -- what is there for a set bit, and nothing for a clear one
@@ -70,7 +70,7 @@ ifSet (suc b) is = is
 abbrev pub spell : ℕ → ℕ → ℕ → ℕ → ℕ → List Instruction
 spell k m v j t = ifSet (v / 2 ^ t % 2) (Or (regV t) (regV t) (regY k m j) ∷ [])
 
-unfoldable pub mark : ℕ → ℕ → ℕ → ℕ → List Instruction
+abbrev pub mark : ℕ → ℕ → ℕ → ℕ → List Instruction
 mark k m v j = Or regH regH (regY k m j) ∷ [] ++ blocks k (spell k m v j)
 
 -- the rows r - 1 down to 0 of one column, with j set rows met before them: a set row is marked, and is one more that is met
@@ -82,14 +82,14 @@ marks k m column (suc r) j = ifSet (column r) (mark k m r j) ++ marks k m column
 abbrev pub carry : ℕ → ℕ → ℕ → ℕ → List Instruction
 carry k m w i = Or (regX k i) (regY k m (w + i)) (regY k m (w + i)) ∷ []
 
-unfoldable pub keep : ℕ → ℕ → ℕ → ℕ → List Instruction
+abbrev pub keep : ℕ → ℕ → ℕ → ℕ → List Instruction
 keep k m w h = blocks h (carry k m w)
 
 -- H, then each V_t
 abbrev pub tell : ℕ → List Instruction
 tell t = Output (1 + t) (regV t) ∷ []
 
-unfoldable pub end : ℕ → List Instruction
+abbrev pub end : ℕ → List Instruction
 end k = Output 0 regH ∷ [] ++ blocks k tell
 
 -- the live count h before column c: 1, and after a column with w ones the smaller of 2h - w and m

@@ -54,7 +54,6 @@ module _ (k m : ℕ) where
   begun r (inr x) = inr (inl (inl (omega arith)))
 
   begin-ready : Ready none (begin k) (Held 1)
-  unfolding begin
   begin-ready =
       let zeros : List Instruction = blocks k clear in
       let first : ℕ → Type 0 = Spans 2 3 (regX k 0) (regX k 1) in
@@ -87,7 +86,6 @@ module _ (k m : ℕ) where
     )
 
     split-ready : (c : ℕ) → Ready (Held h) (split k m c h) (Open (2 * h))
-    unfolding split
     split-ready c =
         let pairs = ready-blocks (λ i. Open (2 * i)) (apart k m) h apart-ready in
         (tt, ((inl (inl refl), tt), ready-more (blocks h (apart k m)) (Open 0) _ (Open (2 * h)) opened pairs))
@@ -97,7 +95,6 @@ module _ (k m : ℕ) where
     Reading i = Each (Open (2 * h)) (uses i .reads)
 
     mark-reads : (v j : ℕ) → j < 2 * h → Each Reading (mark k m v j)
-    unfolding mark
     mark-reads v j l = (
       (inl (omega arith), (inr (omega arith), tt)),
       each-blocks Reading (spell k m v j) k
@@ -113,7 +110,6 @@ module _ (k m : ℕ) where
     kept-none r (inr x) = inr x
 
     keep-ready : (w g : ℕ) → w + g ≤ 2 * h → Ready (Open (2 * h)) (keep k m w g) (Held g)
-    unfolding keep
     keep-ready w g l =
         let kept : List Instruction = blocks g (carry k m w) in
         ready-less kept (Open (2 * h)) (Kept g) (Held g) (λ r x. inl (omega arith))
@@ -139,7 +135,6 @@ module _ (k m : ℕ) where
         (keep-ready h (weight bit m c) g next)
 
     end-reads : Each (λ i. Each (Held 0) (uses i .reads)) (end k)
-    unfolding end
     end-reads = ((omega arith, tt), each-blocks (λ i. Each (Held 0) (uses i .reads)) tell k (λ t l. ((omega arith, tt), tt)))
 
     -- whatever is live at the end, H and each V are written

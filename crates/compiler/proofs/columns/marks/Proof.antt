@@ -40,19 +40,6 @@ returns c = rows-done (c .before .loop .inv) (c .loop-test .left)
 pub marks-spec : {M : Type 1} → statement M
 marks-spec =
     tie.close
-    (tie.spec
-    Inv-loop
-    μ-loop
-    loop-holds
-    (λ c. search needs)
-    (λ c. search needs)
-    mul-bit
-    (λ c κs. search needs)
-    (λ c. search needs)
-    mark-if-requires
-    (λ c. search needs)
-    (λ c. search needs)
-    (λ c. search needs)
-    loop-again
-    same-length
-    returns)
+    (tie.spec Inv-loop μ-loop loop-holds (λ c. search needs) (λ c. search needs) mul-bit (λ c κs. search needs)
+    (λ c. search needs) mark-if-requires (λ c. search needs) (λ c. search needs) (λ c. search needs) loop-again
+    same-length returns)

@@ -1,7 +1,7 @@
 -- `compiler::begin` meets its contract: two instructions, then one for each V passed. Assumes nothing.
 use borrow.Author.Needs.{needs}
 use Prim.Native.Nat.{_-_}
-use Rattle.compiler.specs.Translation.{clear, begin}
+use Rattle.compiler.specs.Translation.{clear}
 use Rattle.compiler.specs.Emitting.{emitted-after, Parts, parts-none, parts-space, parts-more, parts-done}
 use Rattle.compiler.proofs.parts.begin.Statement.{statement}
 use Rattle.compiler.proofs.parts.begin.Tie as tie
@@ -12,16 +12,7 @@ Inv-loop k out₀ at to₀ t₀ out to t = Parts clear k to₀ out₀ t out to
 abbrev μ-loop : tie.MeasureT-loop
 μ-loop k out₀ at to₀ t₀ out to t = k - t
 
-put-requires : tie.Need-put-requires Inv-loop μ-loop
-unfolding begin
-put-requires c κs = search needs
-
-put-requires-2 : tie.Need-put-requires-2 Inv-loop μ-loop
-unfolding begin
-put-requires-2 c κs = search needs
-
 loop-holds : tie.Need-loop-holds Inv-loop μ-loop
-unfolding begin
 loop-holds c = parts-none (search needs)
 
 put-requires-3 : tie.Need-put-requires-3 Inv-loop μ-loop
@@ -37,7 +28,6 @@ loop-again c =
     parts-more (test .before .loop .inv) (test .loop-test .taken) (rw (register .reg-v .ensures) at (put .put3 .ensures))
 
 returns : tie.Need-returns Inv-loop μ-loop
-unfolding begin
 returns c =
     let second = c .before .before .before .before in
     let first = second .before .before .before .before in
@@ -47,17 +37,6 @@ returns c =
 pub begin-spec : {M : Type 1} → statement M
 begin-spec =
     tie.close
-    (tie.spec
-    Inv-loop
-    μ-loop
-    (λ c κs. search needs)
-    put-requires
-    put-requires-2
-    loop-holds
-    (λ c κs. search needs)
-    put-requires-3
-    (λ c. search needs)
-    (λ c. search needs)
-    loop-again
-    (λ c. search needs)
+    (tie.spec Inv-loop μ-loop (λ c κs. search needs) (λ c κs. search needs) (λ c κs. search needs) loop-holds
+    (λ c κs. search needs) put-requires-3 (λ c. search needs) (λ c. search needs) loop-again (λ c. search needs)
     returns)

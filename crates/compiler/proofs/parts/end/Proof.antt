@@ -1,7 +1,7 @@
 -- `compiler::end` meets its contract: one instruction, then one for each V passed. Assumes nothing.
 use borrow.Author.Needs.{needs}
 use Prim.Native.Nat.{_-_}
-use Rattle.compiler.specs.Translation.{tell, end}
+use Rattle.compiler.specs.Translation.{tell}
 use Rattle.compiler.specs.Emitting.{emitted-after, Parts, parts-none, parts-space, parts-more, parts-done}
 use Rattle.compiler.proofs.parts.end.Statement.{statement}
 use Rattle.compiler.proofs.parts.end.Tie as tie
@@ -12,12 +12,7 @@ Inv-loop k out₀ at to₀ t₀ out to t = Parts tell k to₀ out₀ t out to
 abbrev μ-loop : tie.MeasureT-loop
 μ-loop k out₀ at to₀ t₀ out to t = k - t
 
-put-requires : tie.Need-put-requires Inv-loop μ-loop
-unfolding end
-put-requires c κs = search needs
-
 loop-holds : tie.Need-loop-holds Inv-loop μ-loop
-unfolding end
 loop-holds c = parts-none (search needs)
 
 put-requires-2 : tie.Need-put-requires-2 Inv-loop μ-loop
@@ -33,23 +28,11 @@ loop-again c =
     parts-more (test .before .loop .inv) (test .loop-test .taken) (rw (register .reg-v .ensures) at (put .put2 .ensures))
 
 returns : tie.Need-returns Inv-loop μ-loop
-unfolding end
 returns c = emitted-after (c .before .before .before .before .put .ensures) (parts-done (c .before .loop .inv) (c .loop-test .left))
 
 pub end-spec : {M : Type 1} → statement M
 end-spec =
     tie.close
-    (tie.spec
-    Inv-loop
-    μ-loop
-    put-requires
-    loop-holds
-    (λ c. search needs)
-    (λ c. search needs)
-    (λ c κs. search needs)
-    put-requires-2
-    (λ c. search needs)
-    (λ c. search needs)
-    loop-again
-    (λ c. search needs)
+    (tie.spec Inv-loop μ-loop (λ c κs. search needs) loop-holds (λ c. search needs) (λ c. search needs)
+    (λ c κs. search needs) put-requires-2 (λ c. search needs) (λ c. search needs) loop-again (λ c. search needs)
     returns)

@@ -1,7 +1,7 @@
 -- `compiler::keep` meets its contract: one instruction for each distance passed. Assumes nothing.
 use borrow.Author.Needs.{needs}
 use Prim.Native.Nat.{_-_}
-use Rattle.compiler.specs.Translation.{carry, keep}
+use Rattle.compiler.specs.Translation.{carry}
 use Rattle.compiler.specs.Emitting.{Parts, parts-none, parts-space, parts-more, parts-done}
 use Rattle.compiler.proofs.parts.keep.Statement.{statement}
 use Rattle.compiler.proofs.parts.keep.Tie as tie
@@ -13,7 +13,6 @@ abbrev μ-loop : tie.MeasureT-loop
 μ-loop k m w h out₀ at to₀ i₀ out to i = h - i
 
 loop-holds : tie.Need-loop-holds Inv-loop μ-loop
-unfolding keep
 loop-holds c = parts-none (c .before .pre .0)
 
 put-requires : tie.Need-put-requires Inv-loop μ-loop
@@ -30,22 +29,10 @@ loop-again c =
     parts-more (test .before .loop .inv) (test .loop-test .taken) (rw (x .reg-x .ensures, y .reg-y .ensures) at (put .put .ensures))
 
 returns : tie.Need-returns Inv-loop μ-loop
-unfolding keep
 returns c = parts-done (c .before .loop .inv) (c .loop-test .left)
 
 pub keep-spec : {M : Type 1} → statement M
 keep-spec =
     tie.close
-    (tie.spec
-    Inv-loop
-    μ-loop
-    loop-holds
-    (λ c κs. search needs)
-    (λ c. search needs)
-    (λ c κs. search needs)
-    put-requires
-    (λ c. search needs)
-    (λ c. search needs)
-    loop-again
-    (λ c. search needs)
-    returns)
+    (tie.spec Inv-loop μ-loop loop-holds (λ c κs. search needs) (λ c. search needs) (λ c κs. search needs)
+    put-requires (λ c. search needs) (λ c. search needs) loop-again (λ c. search needs) returns)

@@ -3,7 +3,7 @@ use borrow.Author.Needs.{needs}
 use mathlib.Core.Path.{_≡_}
 use Prim.Native.Nat.{_-_}
 use Rattle.laws.specs.Digits.{and-one}
-use Rattle.compiler.specs.Translation.{regY, spell, mark}
+use Rattle.compiler.specs.Translation.{regY, spell}
 use Rattle.compiler.specs.Emitting.{emitted-after, Parts, parts-none, parts-space, parts-more, parts-done}
 use Rattle.compiler.proofs.parts.mark.Statement.{statement}
 use Rattle.compiler.proofs.parts.mark.Tie as tie
@@ -14,12 +14,7 @@ Inv-loop k m v j out₀ at y to₀ t₀ out to t = (y ≡ regY k m j) × Parts (
 abbrev μ-loop : tie.MeasureT-loop
 μ-loop k m v j out₀ at y to₀ t₀ out to t = k - t
 
-put-requires : tie.Need-put-requires Inv-loop μ-loop
-unfolding mark
-put-requires c κs = search needs
-
 loop-holds : tie.Need-loop-holds Inv-loop μ-loop
-unfolding mark
 loop-holds c = (search needs, parts-none (search needs))
 
 put-if-requires : tie.Need-put-if-requires Inv-loop μ-loop
@@ -39,7 +34,6 @@ loop-again c =
     (inv .0, parts-more (inv .1) (test .loop-test .taken) next)
 
 returns : tie.Need-returns Inv-loop μ-loop
-unfolding mark
 returns c =
     let first = c .before .before .before .before in
     emitted-after (rw (first .before .before .reg-y .ensures) at (first .put .ensures))
@@ -48,17 +42,5 @@ returns c =
 pub mark-spec : {M : Type 1} → statement M
 mark-spec =
     tie.close
-    (tie.spec
-    Inv-loop
-    μ-loop
-    (λ c κs. search needs)
-    put-requires
-    loop-holds
-    (λ c κs. search needs)
-    (λ c. search needs)
-    put-if-requires
-    (λ c. search needs)
-    (λ c. search needs)
-    loop-again
-    (λ c. search needs)
-    returns)
+    (tie.spec Inv-loop μ-loop (λ c κs. search needs) (λ c κs. search needs) loop-holds (λ c κs. search needs)
+    (λ c. search needs) put-if-requires (λ c. search needs) (λ c. search needs) loop-again (λ c. search needs) returns)

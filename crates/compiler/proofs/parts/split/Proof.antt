@@ -1,7 +1,7 @@
 -- `compiler::split` meets its contract: two instructions, then two for each distance passed. Assumes nothing.
 use borrow.Author.Needs.{needs}
 use Prim.Native.Nat.{_-_}
-use Rattle.compiler.specs.Translation.{apart, split}
+use Rattle.compiler.specs.Translation.{apart}
 use Rattle.compiler.specs.Emitting.{emitted-after, Parts, parts-none, parts-space, parts-more, parts-done}
 use Rattle.compiler.proofs.parts.split.Statement.{statement}
 use Rattle.compiler.proofs.parts.split.Tie as tie
@@ -12,16 +12,7 @@ Inv-loop k m c h out₀ at to₀ i₀ out to i = Parts (apart k m) h to₀ out�
 abbrev μ-loop : tie.MeasureT-loop
 μ-loop k m c h out₀ at to₀ i₀ out to i = h - i
 
-put-requires : tie.Need-put-requires Inv-loop μ-loop
-unfolding split
-put-requires c κs = search needs
-
-put-requires-2 : tie.Need-put-requires-2 Inv-loop μ-loop
-unfolding split
-put-requires-2 c κs = search needs
-
 loop-holds : tie.Need-loop-holds Inv-loop μ-loop
-unfolding split
 loop-holds c = parts-none (search needs)
 
 apart-requires : tie.Need-apart-requires Inv-loop μ-loop
@@ -34,7 +25,6 @@ loop-again c =
     parts-more (test .before .loop .inv) (test .loop-test .taken) (part .apart .ensures)
 
 returns : tie.Need-returns Inv-loop μ-loop
-unfolding split
 returns c =
     let second = c .before .before .before .before in
     let first = second .before .before .before .before in
@@ -43,16 +33,5 @@ returns c =
 pub split-spec : {M : Type 1} → statement M
 split-spec =
     tie.close
-    (tie.spec
-    Inv-loop
-    μ-loop
-    (λ c. search needs)
-    put-requires
-    put-requires-2
-    loop-holds
-    apart-requires
-    (λ c. search needs)
-    (λ c. search needs)
-    loop-again
-    (λ c. search needs)
-    returns)
+    (tie.spec Inv-loop μ-loop (λ c. search needs) (λ c κs. search needs) (λ c κs. search needs) loop-holds
+    apart-requires (λ c. search needs) (λ c. search needs) loop-again (λ c. search needs) returns)
