@@ -26,7 +26,7 @@ use Rattle.machine.specs.Meaning.{exec}
 use Rattle.machine.specs.Checks.{checkOf, codeOf, instructionOf, also}
 use Rattle.machine.specs.Runs.{startOf, startOn, runOf}
 use Rattle.machine.specs.declared.runs.Run.{Run}
-use Rattle.compiler.specs.Translation.{bitsToWrite, rowBits, begin, split, ifSet, mark, marks, keep, end, liveBefore, column, translation, program, compiled, compileOf}
+use Rattle.compiler.specs.Translation.{bitsToWrite, rowBits, ifSet, marks, liveBefore, column, translation, program, compiled, compileOf}
 use Rattle.files.specs.Live.{weight}
 use Rattle.walk.specs.Walk.{Drawn, hit, miss, at, scan, then, walk, drawn, walkOf}
 use Rattle.files.specs.declared.weights.Usage.{Usage}
@@ -151,5 +151,5 @@ all-come (c ∷ cs) e =
 
 -- ---- the table holds
 pub cases-hold : All-come cases
-unfolding listed listing cases comes must all-agree agrees same fieldOf packedBit padded packed spare bit p total headerBytes matrixFile headerOf unpacked bodyOf matrixOf readOf writeOf sum share built buildOf stringsOf rowOf at scan then walk drawn walkOf recordBytes instructionBytes decodeOf sizedOf codeBytes programFile programHeaderOf programHeader programNumbers exec checkOf codeOf instructionOf also startOn runOf bitsToWrite rowBits begin split ifSet mark marks keep end liveBefore column translation program compiled compileOf weight numbersOf sumTo any number digit blocks upto
+unfolding listed listing cases comes must all-agree agrees same fieldOf packedBit padded packed spare bit p total headerBytes matrixFile headerOf unpacked bodyOf matrixOf readOf writeOf sum share built buildOf stringsOf rowOf at scan then walk drawn walkOf recordBytes instructionBytes decodeOf sizedOf codeBytes programFile programHeaderOf programHeader programNumbers exec checkOf codeOf instructionOf also startOn runOf bitsToWrite rowBits ifSet marks liveBefore column translation program compiled compileOf weight numbersOf sumTo any number digit blocks upto
 cases-hold = all-come cases refl
