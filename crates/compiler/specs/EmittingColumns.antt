@@ -1,7 +1,7 @@
 -- Code that counts and writes the columns of a program: how the rows of a column are met, and how one column follows another. Assumes
 -- nothing.
-use Prim.Native.Nat.{ℕ, zero, suc, _+_, _*_, _-_, _^_, _≤_, _<_, min}
-use mathlib.Core.Path.{_≡_, refl, sym, _∙_, subst}
+use Prim.Native.Nat.{ℕ, suc, _+_, _*_, _-_, _^_, _≤_, _<_, min}
+use mathlib.Core.Path.{_≡_, refl, sym, ap, _∙_, subst}
 use mathlib.Core.List.{List, [], _++_, append-assoc, append-nil}
 use native.Mathlib.Nat.{sub-zero, mul-le-mul}
 use native.Mathlib.Numerals.{add-one}
@@ -16,7 +16,7 @@ use Rattle.files.specs.Live.{weight}
 use Rattle.programs.specs.declared.description.Instruction.{Instruction}
 use Rattle.compiler.specs.Translation.{rowBits, split, ifSet, mark, marks, keep, column, liveBefore}
 use Rattle.compiler.specs.Width.{row-lt}
-use Rattle.compiler.specs.Size.{marks-count, split-length, keep-length}
+use Rattle.compiler.specs.Size.{bit-times, column-length, marks-count}
 use Rattle.compiler.specs.Emitting.{Fit, Space, space-first, space-next, Emitted, emitted-none, emitted-after}
 
 -- bit c of row v, in packed rows of `stride` bytes each
@@ -53,11 +53,6 @@ pub row-fits : (v stride : ℕ) → v ≤ most-rows → stride ≤ most-columns 
 row-fits v stride a b = omega (arith, mul-le-mul {n₁ = v} {m₁ = stride} {n₂ = most-rows} {m₂ = most-columns} a b)
 
 -- ---- counting a column
-bit-times : (b x : ℕ) → b < 2 → b * x ≤ x
-bit-times zero x h = omega arith
-bit-times (suc zero) x h = omega arith
-bit-times (suc (suc b)) x h = absurd (omega arith)
-
 pub marked-none : (bits : ℕ → ℕ) → Marked bits 0 0 0
 unfolding sumTo
 marked-none bits = record { set = refl; marking = refl; few = omega arith; fewer = omega arith }
@@ -137,22 +132,21 @@ pub columns-more : {bit : ℕ → ℕ → ℕ} {m n c h w instructions h′ coun
     Columns bit m n (c + 1) h′ (count + (2 + 2 * h + instructions + h′))
 columns-more {bit} {m} {n} {c} {h} {w} {instructions} {h′} {count} few ok l s p =
     let k : ℕ = rowBits m in
-    let rows = marks k m (λ v. bit v c) m 0 in
     record {
       passed = omega arith;
       live = p .after;
       is =
-          rw (blocks-more c (column k m bit), column-is k p)
+          rw (blocks-more c (column k m bit))
           (omega (
             arith,
             s .is,
+            s .live .is,
+            p .after .is,
+            ap (liveBefore bit m) (add-one c),
             p .counted .marking,
             marks-count k m (λ v. bit v c) m ok (row-lt m),
-            length-append (blocks c (column k m bit)) (split k m c h ++ rows ++ keep k m w h′),
-            length-append (split k m c h ++ rows) (keep k m w h′),
-            length-append (split k m c h) rows,
-            split-length k m c h,
-            keep-length k m w h′,
+            length-append (blocks c (column k m bit)) (column k m bit c),
+            column-length k m bit c,
           ));
       few = omega (arith, s .few, s .live .few, p .counted .fewer, p .after .few);
     }

@@ -1,5 +1,5 @@
 -- How long the translation is: within the limit of a program, for every matrix within its own; and its bytes. Assumes nothing.
-use Prim.Native.Nat.{ℕ, zero, suc, _+_, _*_, _-_, _/_, _%_, _^_, _≤_, _<_}
+use Prim.Native.Nat.{ℕ, zero, suc, _+_, _*_, _-_, _/_, _%_, _^_, _≤_, _<_, min}
 use mathlib.Core.Path.{_≡_, refl, sym, ap, _∙_}
 use mathlib.Core.List.{List, [], _∷_, _++_}
 use mathlib.Core.Logic.{⊎-elim}
@@ -46,16 +46,17 @@ sum-up-to n (suc k) f h =
     (eq-or-lt-of-le h)
 
 -- ---- the instructions of each part
-if-length : (b : ℕ) (is : List Instruction) → b ≤ 1 → length (ifSet b is) ≡ b * length is
+if-length : (b : ℕ) (is : List Instruction) → length (ifSet b is) ≡ min b 1 * length is
 unfolding ifSet
-if-length zero is h = omega arith
-if-length (suc zero) is h = omega arith
-if-length (suc (suc b)) is h = absurd (omega arith)
+if-length zero is = omega arith
+if-length (suc b) is =
+    let e : min (suc b) 1 ≡ 1 = omega arith in
+    rw e (omega arith)
 
-if-short : (b : ℕ) (is : List Instruction) → length (ifSet b is) ≤ length is
-unfolding ifSet
-if-short zero is = omega arith
-if-short (suc b) is = omega arith
+pub bit-times : (b x : ℕ) → b < 2 → b * x ≤ x
+bit-times zero x h = omega arith
+bit-times (suc zero) x h = omega arith
+bit-times (suc (suc b)) x h = absurd (omega arith)
 
 module _ (k m : ℕ) where
   mark-length : (v j : ℕ) → length (mark k m v j) ≡ 1 + ones k v
@@ -65,44 +66,27 @@ module _ (k m : ℕ) where
         arith,
         blocks-sum k (spell k m v j),
         sum-eq k (λ t. length (spell k m v j t)) (λ t. v / 2 ^ t % 2)
-            (λ t l. if-length (v / 2 ^ t % 2) _ (omega arith) ∙ omega arith),
-      )
-
-  marks-short : (bits : ℕ → ℕ) (r j : ℕ) → length (marks k m bits r j) ≤ sumTo r (λ v. 1 + ones k v)
-  unfolding marks sumTo
-  marks-short bits zero j = omega arith
-  marks-short bits (suc r) j =
-      omega (
-        arith,
-        length-append (ifSet (bits r) (mark k m r j)) (marks k m bits r (j + bits r)),
-        if-short (bits r) (mark k m r j),
-        mark-length r j,
-        marks-short bits r (j + bits r),
+            (λ t l. if-length (v / 2 ^ t % 2) _ ∙ omega arith),
       )
 
   -- as many as the set rows take
-  marks-length : (bits : ℕ → ℕ) (r j : ℕ) → ((v : ℕ) → v < r → bits v ≤ 1) →
-      length (marks k m bits r j) ≡ sumTo r (λ v. bits v * (1 + ones k v))
+  marks-length : (bits : ℕ → ℕ) (r j : ℕ) → length (marks k m bits r j) ≡ sumTo r (λ v. min (bits v) 1 * (1 + ones k v))
   unfolding marks sumTo
-  marks-length bits zero j ok = refl
-  marks-length bits (suc r) j ok =
+  marks-length bits zero j = refl
+  marks-length bits (suc r) j =
       omega (
         arith,
         length-append (ifSet (bits r) (mark k m r j)) (marks k m bits r (j + bits r)),
-        if-length (bits r) (mark k m r j) (ok r (omega arith)),
-        ap (λ (x : ℕ). bits r * x) (mark-length r j),
-        marks-length bits r (j + bits r) (λ v l. ok v (omega arith)),
+        if-length (bits r) (mark k m r j),
+        ap (λ (x : ℕ). min (bits r) 1 * x) (mark-length r j),
+        marks-length bits r (j + bits r),
       )
 
-  pub split-length : (c h : ℕ) → length (split k m c h) ≡ 2 + 2 * h
-  split-length c h = omega (arith, length-blocks 2 (apart k m) (λ i. refl) h)
-
-  pub keep-length : (w h : ℕ) → length (keep k m w h) ≡ h
-  keep-length w h = omega (arith, length-blocks 1 (carry k m w) (λ i. refl) h)
-
-  column-short : (bit : ℕ → ℕ → ℕ) (c : ℕ) → 1 ≤ m → length (column k m bit c) ≤ 2 + 3 * m + sumTo m (λ v. 1 + ones k v)
+  pub column-length : (bit : ℕ → ℕ → ℕ) (c : ℕ) →
+      length (column k m bit c) ≡
+      2 + 2 * liveBefore bit m c + length (marks k m (λ v. bit v c) m 0) + liveBefore bit m (suc c)
   unfolding column
-  column-short bit c h =
+  column-length bit c =
       let before = split k m c (liveBefore bit m c) in
       let rows = marks k m (λ v. bit v c) m 0 in
       let after = keep k m (weight bit m c) (liveBefore bit m (suc c)) in
@@ -110,9 +94,17 @@ module _ (k m : ℕ) where
         arith,
         length-append (before ++ rows) after,
         length-append before rows,
-        split-length c (liveBefore bit m c),
-        marks-short (λ v. bit v c) m 0,
-        keep-length (weight bit m c) (liveBefore bit m (suc c)),
+        length-blocks 2 (apart k m) (λ i. refl) (liveBefore bit m c),
+        length-blocks 1 (carry k m (weight bit m c)) (λ i. refl) (liveBefore bit m (suc c)),
+      )
+
+  column-short : (bit : ℕ → ℕ → ℕ) (c : ℕ) → 1 ≤ m → length (column k m bit c) ≤ 2 + 3 * m + sumTo m (λ v. 1 + ones k v)
+  column-short bit c h =
+      omega (
+        arith,
+        column-length bit c,
+        marks-length (λ v. bit v c) m 0,
+        sum-mono m (λ v. min (bit v c) 1 * (1 + ones k v)) (λ v. 1 + ones k v) (λ v l. bit-times (min (bit v c) 1) _ (omega arith)),
         live-le bit m c h,
         live-le bit m (suc c) h,
       )
@@ -187,9 +179,9 @@ ones-are (suc k) v h =
 pub marks-count : (k m : ℕ) (bits : ℕ → ℕ) (r : ℕ) → ((v : ℕ) → v < r → bits v ≤ 1) → ((v : ℕ) → v < r → v < 2 ^ k) →
     length (marks k m bits r 0) ≡ sumTo r (λ v. bits v * (1 + Count.ones v))
 marks-count k m bits r ok small =
-    marks-length k m bits r 0 ok ∙
-    sum-eq r (λ v. bits v * (1 + ones k v)) (λ v. bits v * (1 + Count.ones v))
-    (λ v l. ap (λ (x : ℕ). bits v * (1 + x)) (ones-are k v (small v l)))
+    marks-length k m bits r 0 ∙
+    sum-eq r (λ v. min (bits v) 1 * (1 + ones k v)) (λ v. bits v * (1 + Count.ones v))
+    (λ v l. let e : min (bits v) 1 ≡ bits v = omega (arith, ok v l) in rw (e, ones-are k v (small v l)))
 
 -- ---- the limit: 7 bits for each of 128 rows would be too many, but together they have 7 × 64 set bits
 few-ones : (k m : ℕ) → k ≤ 7 → m ≤ 128 → sumTo m (λ v. 1 + ones k v) ≤ 576
