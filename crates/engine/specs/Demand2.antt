@@ -17,12 +17,8 @@ use Rattle.walk.specs.Walk.{drawn, answerOf}
 use Rattle.lanes.specs.Slicing.{lanes}
 use Rattle.lanes.specs.Samples.{sampleOf}
 use Rattle.compiler.specs.Translation.{program, compiled, translation, rowBits}
-use Rattle.compiler.specs.Compiled.{compiled-accepted}
+use Rattle.compiler.specs.Compiled.{compiled-accepted, outputs-are}
 use Rattle.engine.specs.Lanewise.{laneBits, ended, start-is, long, lane-draws}
-
-outputs-are : (M : Matrix) → program M .outputs ≡ 1 + rowBits (M .rows)
-unfolding program
-outputs-are M = refl
 
 module _ (file : List ℕ) (M : Matrix) (e : matrixOf file ≡ gives M) where
   -- what compile writes is always an accepted program

@@ -1,26 +1,22 @@
 -- A lane of a compiled program's words gives what the walk draws on that lane's bits. Assumes nothing.
-use Prim.Native.Nat.{ℕ, zero, suc, _+_, _-_, _*_, _^_, _≤_, _<_}
-use mathlib.Core.Path.{_≡_, refl, sym, ap, _∙_}
-use mathlib.Core.Bool.{cond}
+use Prim.Native.Nat.{ℕ, _+_, _-_, _^_, _≤_, _<_}
+use mathlib.Core.Path.{_≡_, sym, ap, _∙_}
 use mathlib.Core.List.{List, map}
-use native.Mathlib.Nat.{add-comm}
 use native.Mathlib.Omega.{arith}
-use lib.Dec.{eqb}
 use lib.ListN.{length, getD, length-replicate, length-map, List·getD-map}
-use Rattle.laws.specs.Sums.{sumTo, sum-eq}
-use Rattle.laws.specs.Words.{bitAt, pack, bitAt-lt, bitAt-zero}
+use Rattle.laws.specs.Words.{bitAt, bitAt-lt, bitAt-zero}
 use Rattle.laws.specs.Lay.{upto, upto-eq}
 use Rattle.laws.specs.Outcome.{gives, mapped}
 use Rattle.files.specs.Matrix.{Matrix, Accepted}
 use Rattle.machine.specs.Meaning.{words, bits, exec-long}
 use Rattle.machine.specs.Runs.{Ended, startOf, startOn}
 use Rattle.machine.specs.LaneLaw.{lane, lane-start, mapEnded}
-use Rattle.walk.specs.Walk.{sample, missed, drawn, answerOf}
+use Rattle.walk.specs.Walk.{drawn, answerOf}
 use Rattle.lanes.specs.Slicing.{lanes}
 use Rattle.lanes.specs.Samples.{sampleOf, hits, spelled}
 use Rattle.compiler.specs.Translation.{translation, program, compiled, rowBits}
 use Rattle.compiler.specs.Computes.{givenBy, laneInputs}
-use Rattle.compiler.specs.Compiled.{compiledCode}
+use Rattle.compiler.specs.Compiled.{compiledCode, inputs-are, outputs-are}
 use Rattle.compiler.specs.Computes.{start-compiled, start-gives}
 use Rattle.machine.specs.Resuming.{wholeRun, cleared}
 
@@ -54,17 +50,9 @@ module _ (M : Matrix) (a : Accepted M) (inputs registers outputs : List ℕ) (bu
   unfolding ended
   start-is = start-compiled words M a inputs registers outputs budget i r o enough
 
-  columns-are : program M .inputs ≡ M .columns
-  unfolding program
-  columns-are = refl
-
-  outputs-are : program M .outputs ≡ 1 + rowBits (M .rows)
-  unfolding program
-  outputs-are = refl
-
   pub long : length (ended .state .outputs) ≡ 1 + rowBits (M .rows)
   unfolding ended
-  long = exec-long words inputs (translation M) (cleared words (program M)) .1 ∙ (length-replicate {A = ℕ} (program M .outputs) 0 ∙ outputs-are)
+  long = exec-long words inputs (translation M) (cleared words (program M)) .1 ∙ (length-replicate {A = ℕ} (program M .outputs) 0 ∙ outputs-are M)
 
   -- the lane's start, with bits for words
   lane-is : startOn bits (compiled M) (map (lane j) inputs) (map (lane j) registers) (map (lane j) outputs) budget ≡ gives (mapEnded (lane j) ended)
@@ -83,6 +71,6 @@ module _ (M : Matrix) (a : Accepted M) (inputs registers outputs : List ℕ) (bu
       (given-eq (rowBits (M .rows)) (λ o. bitAt (getD (ended .state .outputs) o 0) j) (λ o. getD (map (lane j) (ended .state .outputs)) o 0)
       (λ o. sym (getD-lane j (ended .state .outputs) o)) ∙
       (start-gives M a (map (lane j) inputs) (map (lane j) registers) (map (lane j) outputs) budget
-      (λ c l. rw (getD-lane j inputs c) (omega (arith, bitAt-lt (getD inputs c 0) j))) (rw (length-map inputs (lane j)) (omega (arith, columns-are)))
+      (λ c l. rw (getD-lane j inputs c) (omega (arith, bitAt-lt (getD inputs c 0) j))) (rw (length-map inputs (lane j)) (omega (arith, inputs-are M)))
       (rw (length-map registers (lane j)) r) (rw (length-map outputs (lane j)) o) enough (mapEnded (lane j) ended) lane-is ∙
       ap (λ (l : List ℕ). answerOf (drawn M l)) carried-is))))
