@@ -33,7 +33,8 @@ columns-requires c κs =
 end-requires : tie.Need-end-requires
 end-requires c κs =
     let laid = c .before .before .before in
-    let head = laid .before .before .before .before .before .before .before .before .before in
+    let begun = laid .before .before .before .before .before in
+    let head = begun .before .before .before .before in
     let asked = head .before .before .before .before .before .pre in
     let plan = planned (asked .0) (asked .1) (asked .2) in
     let written = rw (laid .before .before .width .ensures) at (laid .columns .ensures) in
