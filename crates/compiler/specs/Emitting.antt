@@ -1,12 +1,12 @@
 -- Code that writes a program part by part: what it has written, and how one part follows another. Assumes nothing.
 use Prim.Native.Nat.{ℕ, zero, suc, _+_, _*_, _-_, _≤_, _<_}
-use mathlib.Core.Path.{_≡_, refl, sym, ap, _∙_, subst}
+use mathlib.Core.Path.{_≡_, refl, sym, subst}
 use mathlib.Core.List.{List, [], _∷_, _++_, append-assoc, append-nil}
 use mathlib.Core.Logic.{⊎-elim}
 use native.Mathlib.Nat.{eq-or-lt-of-le, le-of-suc-le-suc}
 use native.Mathlib.Omega.{arith}
 use lib.ListN.{length, length-append}
-use Rattle.laws.specs.Lay.{blocks, blocks-more, layAt, layAt-nothing, layAt-after, length-layAt}
+use Rattle.laws.specs.Lay.{blocks, blocks-more, layAt, Laid, laid-none, laid-after}
 use Rattle.laws.specs.Outcome.{laid}
 use Rattle.programs.specs.Limits.{most-registers, most-outputs}
 use Rattle.programs.specs.Instructions.{lengthOf, instructionBytes, encodeOf}
@@ -27,10 +27,9 @@ pub record Space (at : ℕ) (is : List Instruction) (buf : List ℕ) : Type 0 wh
 
 -- `is` stand from byte `at` on, and end before byte `next`
 pub record Emitted (at : ℕ) (is : List Instruction) (buf now : List ℕ) (next : ℕ) : Type 0 where
-  pub long : length now ≡ length buf
+  pub laid : Laid at (codeBytes is) buf now
   pub room : next ≤ length buf
   pub behind : next ≡ at + size is
-  pub laid : now ≡ layAt at (codeBytes is) buf
 
 -- a loop over n parts: all have room, and the first i of them stand
 pub record Parts (f : ℕ → List Instruction) (n at : ℕ) (buf : List ℕ) (i : ℕ) (now : List ℕ) (to : ℕ) : Type 0 where
@@ -62,37 +61,32 @@ size-part f (suc n) i h =
 -- ---- nothing, one instruction, one part after another
 pub emitted-none : {at : ℕ} {is : List Instruction} {buf : List ℕ} → Space at is buf → Emitted at [] buf buf at
 unfolding codeBytes
-emitted-none {at} {is} {buf} h = record { long = refl; room = omega (arith, h .fits); behind = omega arith; laid = layAt-nothing at buf }
+emitted-none {at} {is} {buf} h = record { laid = laid-none at buf; room = omega (arith, h .fits); behind = omega arith }
 
 -- as the encoder answers
 pub emitted-one : {at : ℕ} {i : Instruction} {long : ℕ} {buf now : List ℕ} → long ≡ lengthOf i → Space at (i ∷ []) buf →
     now ≡ layAt at (laid (λ bytes. bytes) (encodeOf i at (length buf))) buf → Emitted at (i ∷ []) buf now (at + long)
 unfolding codeBytes
 emitted-one {at} {i} {long} {buf} {now} k h e =
-    let f : at + lengthOf i ≤ length buf = omega (arith, h .fits) in
-    let l : at + length (instructionBytes i) ≤ length buf = omega (arith, length-instruction i) in
-    let q : now ≡ layAt at (instructionBytes i) buf = rw (encode-gives i at (length buf) f) at e in
+    let fits : at + lengthOf i ≤ length buf = omega (arith, h .fits) in
+    let q : now ≡ layAt at (instructionBytes i) buf = rw (encode-gives i at (length buf) fits) at e in
     record {
-      long = ap length q ∙ length-layAt at (instructionBytes i) buf l;
+      laid =
+          rw (append-nil (instructionBytes i))
+          (laid-after at at [] (instructionBytes i) buf buf now (omega arith) (omega (arith, length-instruction i)) q (laid-none at buf));
       room = omega arith;
       behind = omega arith;
-      laid = q ∙ ap (λ (xs : List ℕ). layAt at xs buf) (sym (append-nil (instructionBytes i)));
     }
 
 pub emitted-after : {at mid next : ℕ} {is js : List Instruction} {buf now now′ : List ℕ} →
     Emitted at is buf now mid → Emitted mid js now now′ next → Emitted at (is ++ js) buf now′ next
 emitted-after {at} {mid} {next} {is} {js} {buf} {now} {now′} a b =
-    let l : at + length (codeBytes is) ≤ length buf = omega (arith, length-code is, a .room, a .behind) in
     let e : mid ≡ at + length (codeBytes is) = omega (arith, length-code is, a .behind) in
+    let l : mid + length (codeBytes js) ≤ length buf = omega (arith, length-code js, b .behind, b .room, a .laid .long) in
     record {
-      long = b .long ∙ a .long;
-      room = omega (arith, b .room, a .long);
+      laid = rw (code-append is js) (laid-after at mid (codeBytes is) (codeBytes js) buf now now′ e l (b .laid .is) (a .laid));
+      room = omega (arith, b .room, a .laid .long);
       behind = omega (arith, a .behind, b .behind, size-append is js);
-      laid =
-          rw (code-append is js)
-          (b .laid ∙
-          (ap (λ (xs : List ℕ). layAt mid (codeBytes js) xs) (a .laid) ∙
-          (ap (λ (k : ℕ). layAt k (codeBytes js) (layAt at (codeBytes is) buf)) e ∙ layAt-after at (codeBytes is) (codeBytes js) buf l)));
     }
 
 -- ---- room for a part, and behind it for the next
@@ -101,7 +95,7 @@ module _ {at : ℕ} (is js : List Instruction) {buf : List ℕ} (s : Space at (i
   space-first = record { fits = omega (arith, s .fits, size-append is js) }
 
   pub space-next : {mid : ℕ} {now : List ℕ} → Emitted at is buf now mid → Space mid js now
-  space-next a = record { fits = omega (arith, s .fits, size-append is js, a .behind, a .long) }
+  space-next a = record { fits = omega (arith, s .fits, size-append is js, a .behind, a .laid .long) }
 
 -- ---- what is there for a set bit
 module _ (b : ℕ) (is : List Instruction) where
@@ -129,7 +123,7 @@ parts-none h = record { few = omega arith; space = h; so-far = emitted-none h }
 module _ {f : ℕ → List Instruction} {n at i to : ℕ} {buf now : List ℕ} (p : Parts f n at buf i now to) where
   -- the next part has room
   pub parts-space : i < n → Space to (f i) now
-  parts-space h = record { fits = omega (arith, size-part f n i h, p .space .fits, p .so-far .behind, p .so-far .long) }
+  parts-space h = record { fits = omega (arith, size-part f n i h, p .space .fits, p .so-far .behind, p .so-far .laid .long) }
 
   pub parts-more : {now′ : List ℕ} {next : ℕ} → i < n → Emitted to (f i) now now′ next → Parts f n at buf (i + 1) now′ next
   parts-more h b = record { few = omega arith; space = p .space; so-far = rw (blocks-more i f) (emitted-after (p .so-far) b) }

@@ -8,7 +8,7 @@ use native.Mathlib.Omega.{arith}
 use borrow.Author.Tests.{lt-ltb, le-ltb}
 use lib.ListN.{length, drop, length-append}
 use Rattle.laws.specs.Sums.{sum-eq}
-use Rattle.laws.specs.Lay.{blocks, blocks-eq, lay, layAt, lay-is, layAt-after}
+use Rattle.laws.specs.Lay.{blocks, blocks-eq, lay, lay-is, length-lay, laid-after}
 use Rattle.laws.specs.Outcome.{refused, gives, mapped, laid, mapped-gives, mapped-refused}
 use Rattle.files.specs.Fields.{width, bit-le}
 use Rattle.files.specs.Matrix.{Matrix, Accepted, sizes, bit, most-rows, most-columns}
@@ -157,12 +157,12 @@ file-written : (p : Program) (is : List Instruction) (buf head now : List ℕ) (
     now ≡ lay (programFile p is) buf
 unfolding programFile
 file-written p is buf head now next w h e a =
-    let long : 0 + length (headerBytes p) ≡ header-length = omega (arith, header-long p) in
     let q : head ≡ lay (headerBytes p) buf = rw (write-header-gives p (length buf) w h) at e in
-    a .laid ∙
-    (ap (layAt header-length (codeBytes is)) (q ∙ sym (lay-is (headerBytes p) buf)) ∙
-    (ap (λ (i : ℕ). layAt i (codeBytes is) (layAt 0 (headerBytes p) buf)) (sym long) ∙
-    (layAt-after 0 (headerBytes p) (codeBytes is) buf (omega (arith, header-long p)) ∙ lay-is (headerBytes p ++ codeBytes is) buf)))
+    let long : length head ≡ length buf = ap length q ∙ length-lay (headerBytes p) buf (omega (arith, header-long p)) in
+    let fits : header-length + length (codeBytes is) ≤ length buf = omega (arith, length-code is, a .behind, a .room) in
+    laid-after 0 header-length (headerBytes p) (codeBytes is) buf head now (omega (arith, header-long p)) fits (a .laid .is)
+    (record { long = long; is = q ∙ sym (lay-is (headerBytes p) buf) }) .is ∙
+    lay-is (headerBytes p ++ codeBytes is) buf
 
 -- all of it, as measured
 pub program-written : {bytes : List ℕ} {m n k count long : ℕ} {p : Program} (buf : List ℕ) {head b1 b2 now : List ℕ} {at at′ next : ℕ} →

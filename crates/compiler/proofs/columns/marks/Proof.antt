@@ -32,7 +32,7 @@ loop-again c =
     row-more (test .before .loop .inv) (test .loop-test .taken) (read .bit .ensures .0) (read .bit .ensures .1) (marked .mark-if .ensures)
 
 same-length : tie.Need-same-length Inv-loop μ-loop
-same-length c = c .before .loop .inv .so-far .long
+same-length c = c .before .loop .inv .so-far .laid .long
 
 returns : tie.Need-returns Inv-loop μ-loop
 returns c = rows-done (c .before .loop .inv) (c .loop-test .left)
