@@ -1,0 +1,51 @@
+// For C: words sliced, samples read, and batches drawn in one call (include/corkhollow.h). Each function returns 0 or the refusal's
+// number, and has the contract of the operation that it wraps.
+ghost use mathlib.Core.Path.{_≡_};
+ghost use lib.ListN.{length};
+ghost use Rattle.laws.specs.Lay.{lay};
+ghost use Rattle.laws.specs.Outcome.{laid};
+ghost use Rattle.lanes.specs.Slicing.{sliceOf};
+ghost use Rattle.lanes.specs.Samples.{samplesOf};
+ghost use Rattle.corkhollow.specs.Calls.{returned};
+ghost use Rattle.drawing.specs.Drawing.{drawOf};
+use drawing::Drawn;
+use drawing::draw;
+use files::number;
+use lanes::Sampled;
+use lanes::Sliced;
+
+// Slices 64 packed strings into words.
+#[no_mangle]
+pub extern "C" fn corkhollow_slice(columns: usize, strings: &[u8], words: &mut [u64]) -> u32
+    ensures { λ r. ⌜ r ≡ returned (sliceOf columns (now (strings .entry)) (length (now (words .entry)))) ⌝ }
+    ensures { λ r. ⌜ now (words .exit) ≡ lay (laid (λ xs. xs) (sliceOf columns (now (strings .entry)) (length (now (words .entry))))) (now (words .entry)) ⌝ }
+{
+    match lanes::slice(columns, strings, words) {
+        Sliced::Refused(why) => number(why),
+        Sliced::Words(_) => 0,
+    }
+}
+
+// Reads the samples of 64 lanes off output words.
+#[no_mangle]
+pub extern "C" fn corkhollow_samples(outputs: &[u64], samples: &mut [u8]) -> u32
+    ensures { λ r. ⌜ r ≡ returned (samplesOf (now (outputs .entry)) (length (now (samples .entry)))) ⌝ }
+    ensures { λ r. ⌜ now (samples .exit) ≡ lay (laid (λ xs. xs) (samplesOf (now (outputs .entry)) (length (now (samples .entry))))) (now (samples .entry)) ⌝ }
+{
+    match lanes::samples(outputs, samples) {
+        Sampled::Refused(why) => number(why),
+        Sampled::All => 0,
+    }
+}
+
+// Draws 64 samples from a program and 64 strings.
+#[no_mangle]
+pub extern "C" fn corkhollow_draw(program: &[u8], strings: &[u8], samples: &mut [u8]) -> u32
+    ensures { λ r. ⌜ r ≡ returned (drawOf (now (program .entry)) (now (strings .entry)) (length (now (samples .entry)))) ⌝ }
+    ensures { λ r. ⌜ now (samples .exit) ≡ lay (laid (λ xs. xs) (drawOf (now (program .entry)) (now (strings .entry)) (length (now (samples .entry))))) (now (samples .entry)) ⌝ }
+{
+    match draw(program, strings, samples) {
+        Drawn::Refused(why) => number(why),
+        Drawn::All => 0,
+    }
+}
