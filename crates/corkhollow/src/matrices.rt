@@ -24,10 +24,13 @@ pub extern "C" fn corkhollow_read(
     rows: &mut usize,
     columns: &mut usize,
 ) -> u32
-    ensures { λ r. ⌜ r ≡ returned (readOf (now (file .entry)) (ListN.length (now (entries .entry)))) ⌝ }
-    ensures { λ r. ⌜ now (entries .exit) ≡ lay (laid (λ M. M .entries) (readOf (now (file .entry)) (ListN.length (now (entries .entry))))) (now (entries .entry)) ⌝ }
-    ensures { λ r. ⌜ now (rows .exit) ≡ told (λ M. M .rows) (readOf (now (file .entry)) (ListN.length (now (entries .entry)))) (now (rows .entry)) ⌝ }
-    ensures { λ r. ⌜ now (columns .exit) ≡ told (λ M. M .columns) (readOf (now (file .entry)) (ListN.length (now (entries .entry)))) (now (columns .entry)) ⌝ }
+    ensures { λ r. ⌜ (
+        let o = readOf (now (file .entry)) (ListN.length (now (entries .entry))) in
+        (r ≡ returned o) ×
+        (now (entries .exit) ≡ lay (laid (λ M. M .entries) o) (now (entries .entry))) ×
+        (now (rows .exit) ≡ told (λ M. M .rows) o (now (rows .entry))) ×
+        (now (columns .exit) ≡ told (λ M. M .columns) o (now (columns .entry)))
+        ) ⌝ }
 {
     match files::read(file, entries) {
         Checked::Refused(why) => number(why),
@@ -51,9 +54,12 @@ pub extern "C" fn corkhollow_write(
     file: &mut [u8],
     length: &mut usize,
 ) -> u32
-    ensures { λ r. ⌜ r ≡ returned (writeOf rows columns (now (entries .entry)) (ListN.length (now (file .entry)))) ⌝ }
-    ensures { λ r. ⌜ now (file .exit) ≡ lay (laid (λ bytes. bytes) (writeOf rows columns (now (entries .entry)) (ListN.length (now (file .entry))))) (now (file .entry)) ⌝ }
-    ensures { λ r. ⌜ now (length .exit) ≡ told ListN.length (writeOf rows columns (now (entries .entry)) (ListN.length (now (file .entry)))) (now (length .entry)) ⌝ }
+    ensures { λ r. ⌜ (
+        let o = writeOf rows columns (now (entries .entry)) (ListN.length (now (file .entry))) in
+        (r ≡ returned o) ×
+        (now (file .exit) ≡ lay (laid (λ bytes. bytes) o) (now (file .entry))) ×
+        (now (length .exit) ≡ told ListN.length o (now (length .entry)))
+        ) ⌝ }
 {
     match files::write(rows, columns, entries, file) {
         Written::Refused(why) => number(why),
@@ -80,9 +86,12 @@ pub extern "C" fn corkhollow_build(
     file: &mut [u8],
     length: &mut usize,
 ) -> u32
-    ensures { λ r. ⌜ r ≡ returned (buildOf (usageOf signed) (now (weights .entry)) columns (ListN.length (now (file .entry)))) ⌝ }
-    ensures { λ r. ⌜ now (file .exit) ≡ lay (laid (λ bytes. bytes) (buildOf (usageOf signed) (now (weights .entry)) columns (ListN.length (now (file .entry))))) (now (file .entry)) ⌝ }
-    ensures { λ r. ⌜ now (length .exit) ≡ told ListN.length (buildOf (usageOf signed) (now (weights .entry)) columns (ListN.length (now (file .entry)))) (now (length .entry)) ⌝ }
+    ensures { λ r. ⌜ (
+        let o = buildOf (usageOf signed) (now (weights .entry)) columns (ListN.length (now (file .entry))) in
+        (r ≡ returned o) ×
+        (now (file .exit) ≡ lay (laid (λ bytes. bytes) o) (now (file .entry))) ×
+        (now (length .exit) ≡ told ListN.length o (now (length .entry)))
+        ) ⌝ }
 {
     match files::build(weights, columns, usage_of(signed), file) {
         Written::Refused(why) => number(why),
@@ -96,8 +105,11 @@ pub extern "C" fn corkhollow_build(
 // Walks a matrix file on a packed string: the row that is hit, or 255 for a miss.
 #[no_mangle]
 pub extern "C" fn corkhollow_walk(file: &[u8], string: &[u8], row: &mut usize) -> u32
-    ensures { λ r. ⌜ r ≡ returned (walkOf (now (file .entry)) (now (string .entry))) ⌝ }
-    ensures { λ r. ⌜ now (row .exit) ≡ told (λ x. code (answerOf x)) (walkOf (now (file .entry)) (now (string .entry))) (now (row .entry)) ⌝ }
+    ensures { λ r. ⌜ (
+        let o = walkOf (now (file .entry)) (now (string .entry)) in
+        (r ≡ returned o) ×
+        (now (row .exit) ≡ told (λ x. code (answerOf x)) o (now (row .entry)))
+        ) ⌝ }
 {
     match walk::walk(file, string) {
         Walked::Refused(why) => number(why),

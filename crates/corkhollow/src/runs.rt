@@ -1,5 +1,5 @@
-// For C: program files compiled, checked, started and resumed (include/corkhollow.h). Each function returns 0 or the refusal's number, and has the contract of the
-// operation that it wraps.
+// For C: program files compiled, checked, started and resumed (include/corkhollow.h). Each function returns 0 or the refusal's number, and
+// has the contract of the operation that it wraps.
 ghost use mathlib.Core.Path.{_≡_};
 ghost use lib.ListN;
 ghost use Rattle.laws.specs.Lay.{lay};
@@ -7,7 +7,7 @@ ghost use Rattle.laws.specs.Outcome.{laid};
 ghost use Rattle.compiler.specs.Translation.{compileOf};
 ghost use Rattle.machine.specs.Checks.{checkOf};
 ghost use Rattle.machine.specs.Runs.{resumeOf, startOf};
-ghost use Rattle.corkhollow.specs.Calls.{returned, told};
+ghost use Rattle.corkhollow.specs.Calls.{countOf, finishedOf, outputsOf, positionOf, registersOf, returned, told};
 use files::Written;
 use files::number;
 use machine::Ran;
@@ -16,9 +16,12 @@ use programs::Checked;
 // Compiles a matrix file into `program`, and tells the program's length.
 #[no_mangle]
 pub extern "C" fn corkhollow_compile(file: &[u8], program: &mut [u8], length: &mut usize) -> u32
-    ensures { λ r. ⌜ r ≡ returned (compileOf (now (file .entry)) (ListN.length (now (program .entry)))) ⌝ }
-    ensures { λ r. ⌜ now (program .exit) ≡ lay (laid (λ bytes. bytes) (compileOf (now (file .entry)) (ListN.length (now (program .entry))))) (now (program .entry)) ⌝ }
-    ensures { λ r. ⌜ now (length .exit) ≡ told ListN.length (compileOf (now (file .entry)) (ListN.length (now (program .entry)))) (now (length .entry)) ⌝ }
+    ensures { λ r. ⌜ (
+        let o = compileOf (now (file .entry)) (ListN.length (now (program .entry))) in
+        (r ≡ returned o) ×
+        (now (program .exit) ≡ lay (laid (λ bytes. bytes) o) (now (program .entry))) ×
+        (now (length .exit) ≡ told ListN.length o (now (length .entry)))
+        ) ⌝ }
 {
     match compiler::compile(file, program) {
         Written::Refused(why) => number(why),
@@ -38,11 +41,14 @@ pub extern "C" fn corkhollow_check(
     outputs: &mut usize,
     count: &mut u32,
 ) -> u32
-    ensures { λ r. ⌜ r ≡ returned (checkOf (now (program .entry))) ⌝ }
-    ensures { λ r. ⌜ now (registers .exit) ≡ told (λ c. c .program .registers) (checkOf (now (program .entry))) (now (registers .entry)) ⌝ }
-    ensures { λ r. ⌜ now (inputs .exit) ≡ told (λ c. c .program .inputs) (checkOf (now (program .entry))) (now (inputs .entry)) ⌝ }
-    ensures { λ r. ⌜ now (outputs .exit) ≡ told (λ c. c .program .outputs) (checkOf (now (program .entry))) (now (outputs .entry)) ⌝ }
-    ensures { λ r. ⌜ now (count .exit) ≡ told (λ c. c .program .count) (checkOf (now (program .entry))) (now (count .entry)) ⌝ }
+    ensures { λ r. ⌜ (
+        let o = checkOf (now (program .entry)) in
+        (r ≡ returned o) ×
+        (now (registers .exit) ≡ told (λ c. c .program .registers) o (now (registers .entry))) ×
+        (now (inputs .exit) ≡ told (λ c. c .program .inputs) o (now (inputs .entry))) ×
+        (now (outputs .exit) ≡ told (λ c. c .program .outputs) o (now (outputs .entry))) ×
+        (now (count .exit) ≡ told (λ c. c .program .count) o (now (count .entry)))
+        ) ⌝ }
 {
     match machine::check(program) {
         Checked::Refused(why) => number(why),
@@ -68,12 +74,15 @@ pub extern "C" fn corkhollow_start(
     count: &mut u32,
     finished: &mut bool,
 ) -> u32
-    ensures { λ r. ⌜ r ≡ returned (startOf (now (program .entry)) (now (inputs .entry)) (now (registers .entry)) (now (outputs .entry)) budget) ⌝ }
-    ensures { λ r. ⌜ now (registers .exit) ≡ lay (laid (λ x. x .state .registers) (startOf (now (program .entry)) (now (inputs .entry)) (now (registers .entry)) (now (outputs .entry)) budget)) (now (registers .entry)) ⌝ }
-    ensures { λ r. ⌜ now (outputs .exit) ≡ lay (laid (λ x. x .state .outputs) (startOf (now (program .entry)) (now (inputs .entry)) (now (registers .entry)) (now (outputs .entry)) budget)) (now (outputs .entry)) ⌝ }
-    ensures { λ r. ⌜ now (position .exit) ≡ told (λ x. x .answer .position) (startOf (now (program .entry)) (now (inputs .entry)) (now (registers .entry)) (now (outputs .entry)) budget) (now (position .entry)) ⌝ }
-    ensures { λ r. ⌜ now (count .exit) ≡ told (λ x. x .answer .count) (startOf (now (program .entry)) (now (inputs .entry)) (now (registers .entry)) (now (outputs .entry)) budget) (now (count .entry)) ⌝ }
-    ensures { λ r. ⌜ now (finished .exit) ≡ told (λ x. x .answer .finished) (startOf (now (program .entry)) (now (inputs .entry)) (now (registers .entry)) (now (outputs .entry)) budget) (now (finished .entry)) ⌝ }
+    ensures { λ r. ⌜ (
+        let o = startOf (now (program .entry)) (now (inputs .entry)) (now (registers .entry)) (now (outputs .entry)) budget in
+        (r ≡ returned o) ×
+        (now (registers .exit) ≡ lay (laid registersOf o) (now (registers .entry))) ×
+        (now (outputs .exit) ≡ lay (laid outputsOf o) (now (outputs .entry))) ×
+        (now (position .exit) ≡ told positionOf o (now (position .entry))) ×
+        (now (count .exit) ≡ told countOf o (now (count .entry))) ×
+        (now (finished .exit) ≡ told finishedOf o (now (finished .entry)))
+        ) ⌝ }
 {
     match machine::start(program, inputs, registers, outputs, budget) {
         Ran::Refused(why) => number(why),
@@ -99,12 +108,15 @@ pub extern "C" fn corkhollow_resume(
     count: &mut u32,
     finished: &mut bool,
 ) -> u32
-    ensures { λ r. ⌜ r ≡ returned (resumeOf (now (program .entry)) (now (inputs .entry)) (now (registers .entry)) (now (outputs .entry)) position budget) ⌝ }
-    ensures { λ r. ⌜ now (registers .exit) ≡ lay (laid (λ x. x .state .registers) (resumeOf (now (program .entry)) (now (inputs .entry)) (now (registers .entry)) (now (outputs .entry)) position budget)) (now (registers .entry)) ⌝ }
-    ensures { λ r. ⌜ now (outputs .exit) ≡ lay (laid (λ x. x .state .outputs) (resumeOf (now (program .entry)) (now (inputs .entry)) (now (registers .entry)) (now (outputs .entry)) position budget)) (now (outputs .entry)) ⌝ }
-    ensures { λ r. ⌜ now («position_out» .exit) ≡ told (λ x. x .answer .position) (resumeOf (now (program .entry)) (now (inputs .entry)) (now (registers .entry)) (now (outputs .entry)) position budget) (now («position_out» .entry)) ⌝ }
-    ensures { λ r. ⌜ now (count .exit) ≡ told (λ x. x .answer .count) (resumeOf (now (program .entry)) (now (inputs .entry)) (now (registers .entry)) (now (outputs .entry)) position budget) (now (count .entry)) ⌝ }
-    ensures { λ r. ⌜ now (finished .exit) ≡ told (λ x. x .answer .finished) (resumeOf (now (program .entry)) (now (inputs .entry)) (now (registers .entry)) (now (outputs .entry)) position budget) (now (finished .entry)) ⌝ }
+    ensures { λ r. ⌜ (
+        let o = resumeOf (now (program .entry)) (now (inputs .entry)) (now (registers .entry)) (now (outputs .entry)) position budget in
+        (r ≡ returned o) ×
+        (now (registers .exit) ≡ lay (laid registersOf o) (now (registers .entry))) ×
+        (now (outputs .exit) ≡ lay (laid outputsOf o) (now (outputs .entry))) ×
+        (now («position_out» .exit) ≡ told positionOf o (now («position_out» .entry))) ×
+        (now (count .exit) ≡ told countOf o (now (count .entry))) ×
+        (now (finished .exit) ≡ told finishedOf o (now (finished .entry)))
+        ) ⌝ }
 {
     match machine::resume(program, inputs, registers, outputs, position, budget) {
         Ran::Refused(why) => number(why),

@@ -17,8 +17,11 @@ use lanes::Sliced;
 // Slices 64 packed strings into words.
 #[no_mangle]
 pub extern "C" fn corkhollow_slice(columns: usize, strings: &[u8], words: &mut [u64]) -> u32
-    ensures { λ r. ⌜ r ≡ returned (sliceOf columns (now (strings .entry)) (length (now (words .entry)))) ⌝ }
-    ensures { λ r. ⌜ now (words .exit) ≡ lay (laid (λ xs. xs) (sliceOf columns (now (strings .entry)) (length (now (words .entry))))) (now (words .entry)) ⌝ }
+    ensures { λ r. ⌜ (
+        let o = sliceOf columns (now (strings .entry)) (length (now (words .entry))) in
+        (r ≡ returned o) ×
+        (now (words .exit) ≡ lay (laid (λ xs. xs) o) (now (words .entry)))
+        ) ⌝ }
 {
     match lanes::slice(columns, strings, words) {
         Sliced::Refused(why) => number(why),
@@ -29,8 +32,11 @@ pub extern "C" fn corkhollow_slice(columns: usize, strings: &[u8], words: &mut [
 // Reads the samples of 64 lanes off output words.
 #[no_mangle]
 pub extern "C" fn corkhollow_samples(outputs: &[u64], samples: &mut [u8]) -> u32
-    ensures { λ r. ⌜ r ≡ returned (samplesOf (now (outputs .entry)) (length (now (samples .entry)))) ⌝ }
-    ensures { λ r. ⌜ now (samples .exit) ≡ lay (laid (λ xs. xs) (samplesOf (now (outputs .entry)) (length (now (samples .entry))))) (now (samples .entry)) ⌝ }
+    ensures { λ r. ⌜ (
+        let o = samplesOf (now (outputs .entry)) (length (now (samples .entry))) in
+        (r ≡ returned o) ×
+        (now (samples .exit) ≡ lay (laid (λ xs. xs) o) (now (samples .entry)))
+        ) ⌝ }
 {
     match lanes::samples(outputs, samples) {
         Sampled::Refused(why) => number(why),
@@ -41,8 +47,11 @@ pub extern "C" fn corkhollow_samples(outputs: &[u64], samples: &mut [u8]) -> u32
 // Draws 64 samples from a program and 64 strings.
 #[no_mangle]
 pub extern "C" fn corkhollow_draw(program: &[u8], strings: &[u8], samples: &mut [u8]) -> u32
-    ensures { λ r. ⌜ r ≡ returned (drawOf (now (program .entry)) (now (strings .entry)) (length (now (samples .entry)))) ⌝ }
-    ensures { λ r. ⌜ now (samples .exit) ≡ lay (laid (λ xs. xs) (drawOf (now (program .entry)) (now (strings .entry)) (length (now (samples .entry))))) (now (samples .entry)) ⌝ }
+    ensures { λ r. ⌜ (
+        let o = drawOf (now (program .entry)) (now (strings .entry)) (length (now (samples .entry))) in
+        (r ≡ returned o) ×
+        (now (samples .exit) ≡ lay (laid (λ xs. xs) o) (now (samples .entry)))
+        ) ⌝ }
 {
     match draw(program, strings, samples) {
         Drawn::Refused(why) => number(why),

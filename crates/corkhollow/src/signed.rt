@@ -15,8 +15,11 @@ use lanes::Sampled;
 // Reads the signed samples of 64 lanes off output words, with a sign word.
 #[no_mangle]
 pub extern "C" fn corkhollow_signed_samples(outputs: &[u64], sign: u64, samples: &mut [i16]) -> u32
-    ensures { λ r. ⌜ r ≡ returned (signedSamplesOf (now (outputs .entry)) sign (length (now (samples .entry)))) ⌝ }
-    ensures { λ r. ⌜ now (samples .exit) ≡ lay (laid (λ xs. xs) (signedSamplesOf (now (outputs .entry)) sign (length (now (samples .entry))))) (now (samples .entry)) ⌝ }
+    ensures { λ r. ⌜ (
+        let o = signedSamplesOf (now (outputs .entry)) sign (length (now (samples .entry))) in
+        (r ≡ returned o) ×
+        (now (samples .exit) ≡ lay (laid (λ xs. xs) o) (now (samples .entry)))
+        ) ⌝ }
 {
     match lanes::signed_samples(outputs, sign, samples) {
         Sampled::Refused(why) => number(why),
@@ -32,8 +35,11 @@ pub extern "C" fn corkhollow_draw_signed(
     sign: u64,
     samples: &mut [i16],
 ) -> u32
-    ensures { λ r. ⌜ r ≡ returned (drawSignedOf (now (program .entry)) (now (strings .entry)) sign (length (now (samples .entry)))) ⌝ }
-    ensures { λ r. ⌜ now (samples .exit) ≡ lay (laid (λ xs. xs) (drawSignedOf (now (program .entry)) (now (strings .entry)) sign (length (now (samples .entry))))) (now (samples .entry)) ⌝ }
+    ensures { λ r. ⌜ (
+        let o = drawSignedOf (now (program .entry)) (now (strings .entry)) sign (length (now (samples .entry))) in
+        (r ≡ returned o) ×
+        (now (samples .exit) ≡ lay (laid (λ xs. xs) o) (now (samples .entry)))
+        ) ⌝ }
 {
     match draw_signed(program, strings, sign, samples) {
         Drawn::Refused(why) => number(why),

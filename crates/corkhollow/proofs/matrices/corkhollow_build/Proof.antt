@@ -1,9 +1,8 @@
 -- `corkhollow::corkhollow_build` meets its contract. Assumes nothing.
-use Prim.Native.Nat.{ℕ}
+use mathlib.Core.Path.{refl}
 use borrow.Author.Needs.{needs}
-use lib.ListN.{length}
-use Rattle.files.specs.Weights.{buildOf}
-use Rattle.corkhollow.specs.Calls.{refused-returned, refused-told, given-returned, given-told}
+use Rattle.files.specs.Files.{written}
+use Rattle.corkhollow.specs.Calls.{writes}
 use Rattle.corkhollow.proofs.matrices.corkhollow_build.Statement.{statement}
 use Rattle.corkhollow.proofs.matrices.corkhollow_build.Tie as tie
 
@@ -27,34 +26,17 @@ same-length c = search needs
 
 returns : tie.Need-returns
 returns c =
-    let p = c .before .before .before .before .before .before .build .ensures in
-    let a = c .before .before .before .before .before .before .before .before .before .before .before .args in
-    let o = buildOf (c .before .before .before .before .before .before .before .before .usage-of .result) (a .weights .now) (a .columns) (length (a .file .now)) in
-    let e = rw (c .before .before .why .given .1) at (p .0) in
-    rw (← c .before .before .before .before .before .before .before .before .usage-of .ensures) (
-      refused-returned length o _ e _ (c .number .ensures),
-      (
-        p .1,
-        refused-told length o _ e length _,
-      ),
-    )
+    let called = c .before .before .before .before .before .before in
+    rw (← called .before .before .usage-of .ensures)
+    (writes written _ _ (c .before .before .why .given .1) (search) (c .number .ensures) refl)
 
 same-length-2 : tie.Need-same-length-2
 same-length-2 c = search needs
 
 returns-2 : tie.Need-returns-2
 returns-2 c =
-    let p = c .before .before .before .before .before .build .ensures in
-    let a = c .before .before .before .before .before .before .before .before .before .before .args in
-    let o = buildOf (c .before .before .before .before .before .before .before .usage-of .result) (a .weights .now) (a .columns) (length (a .file .now)) in
-    let e = rw (c .before .built .given .1) at (p .0) in
-    rw (← c .before .before .before .before .before .before .before .usage-of .ensures) (
-      given-returned length o _ e,
-      (
-        p .1,
-        given-told length o _ e (λ (n : ℕ). n) _,
-      ),
-    )
+    let called = c .before .before .before .before .before in
+    rw (← called .before .before .usage-of .ensures) (writes written _ _ (c .before .built .given .1) (search) refl refl)
 
 pub corkhollow-build-spec : {M : Type 1} → statement M
 corkhollow-build-spec =

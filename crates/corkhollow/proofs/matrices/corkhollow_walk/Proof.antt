@@ -1,8 +1,8 @@
 -- `corkhollow::corkhollow_walk` meets its contract. Assumes nothing.
+use mathlib.Core.Path.{refl}
 use borrow.Author.Needs.{needs}
-use Rattle.walk.specs.Walk.{Drawn, answerOf, walkOf}
-use Rattle.lanes.specs.Samples.{code}
-use Rattle.corkhollow.specs.Calls.{refused-returned, refused-told, given-returned, given-told}
+use Rattle.walk.specs.Walk.{walked}
+use Rattle.corkhollow.specs.Calls.{walks}
 use Rattle.corkhollow.proofs.matrices.corkhollow_walk.Statement.{statement}
 use Rattle.corkhollow.proofs.matrices.corkhollow_walk.Tie as tie
 
@@ -25,25 +25,13 @@ cast-row : tie.Need-cast-row
 cast-row c = search needs
 
 returns : tie.Need-returns
-returns c =
-    let a = c .before .before .before .before .before .before .before .args in
-    let o = walkOf (a .file .now) (a .string .now) in
-    let e = rw (c .before .before .why .given .1) at (c .before .before .before .before .walk .ensures) in
-    (refused-returned answerOf o _ e _ (c .number .ensures), refused-told answerOf o _ e (λ (x : Drawn). code (answerOf x)) _)
+returns c = walks walked _ _ (c .before .before .why .given .1) (search) (c .number .ensures) refl
 
 returns-2 : tie.Need-returns-2
-returns-2 c =
-    let a = c .before .before .before .before .before .before .args in
-    let o = walkOf (a .file .now) (a .string .now) in
-    let e = rw (c .before .v .given .1) at (c .before .before .before .walk .ensures) in
-    (given-returned answerOf o _ e, given-told answerOf o _ e code _)
+returns-2 c = walks walked _ _ (c .before .v .given .1) (search) refl refl
 
 returns-3 : tie.Need-returns-3
-returns-3 c =
-    let a = c .before .before .before .before .before .args in
-    let o = walkOf (a .file .now) (a .string .now) in
-    let e = rw (c .enum-told .given .1) at (c .before .before .walk .ensures) in
-    (given-returned answerOf o _ e, given-told answerOf o _ e code _)
+returns-3 c = walks walked _ _ (c .enum-told .given .1) (search) refl refl
 
 pub corkhollow-walk-spec : {M : Type 1} → statement M
 corkhollow-walk-spec =

@@ -1,9 +1,8 @@
 -- `corkhollow::corkhollow_compile` meets its contract. Assumes nothing.
-use Prim.Native.Nat.{ℕ}
+use mathlib.Core.Path.{refl}
 use borrow.Author.Needs.{needs}
-use lib.ListN.{length}
-use Rattle.compiler.specs.Translation.{compileOf}
-use Rattle.corkhollow.specs.Calls.{refused-returned, refused-told, given-returned, given-told}
+use Rattle.files.specs.Files.{written}
+use Rattle.corkhollow.specs.Calls.{writes}
 use Rattle.corkhollow.proofs.runs.corkhollow_compile.Statement.{statement}
 use Rattle.corkhollow.proofs.runs.corkhollow_compile.Tie as tie
 
@@ -23,33 +22,13 @@ same-length : tie.Need-same-length
 same-length c = search needs
 
 returns : tie.Need-returns
-returns c =
-    let p = c .before .before .before .before .before .before .compile .ensures in
-    let a = c .before .before .before .before .before .before .before .before .before .before .args in
-    let o = compileOf (a .file .now) (length (a .program .now)) in
-    let e = rw (c .before .before .why .given .1) at (p .0) in (
-      refused-returned length o _ e _ (c .number .ensures),
-      (
-        p .1,
-        refused-told length o _ e length _,
-      ),
-    )
+returns c = writes written _ _ (c .before .before .why .given .1) (search) (c .number .ensures) refl
 
 same-length-2 : tie.Need-same-length-2
 same-length-2 c = search needs
 
 returns-2 : tie.Need-returns-2
-returns-2 c =
-    let p = c .before .before .before .before .before .compile .ensures in
-    let a = c .before .before .before .before .before .before .before .before .before .args in
-    let o = compileOf (a .file .now) (length (a .program .now)) in
-    let e = rw (c .before .n .given .1) at (p .0) in (
-      given-returned length o _ e,
-      (
-        p .1,
-        given-told length o _ e (λ (n : ℕ). n) _,
-      ),
-    )
+returns-2 c = writes written _ _ (c .before .n .given .1) (search) refl refl
 
 pub corkhollow-compile-spec : {M : Type 1} → statement M
 corkhollow-compile-spec =

@@ -1,9 +1,8 @@
 -- `corkhollow::corkhollow_start` meets its contract. Assumes nothing.
+use mathlib.Core.Path.{refl}
 use borrow.Author.Needs.{needs}
-use Prim.Native.Nat.{ℕ}
-use Rattle.machine.specs.Runs.{Ended, startOf}
-use Rattle.machine.specs.declared.runs.Run.{Run}
-use Rattle.corkhollow.specs.Calls.{refused-returned, refused-told, given-returned, given-told}
+use Rattle.machine.specs.Runs.{ran}
+use Rattle.corkhollow.specs.Calls.{runs}
 use Rattle.corkhollow.proofs.runs.corkhollow_start.Statement.{statement}
 use Rattle.corkhollow.proofs.runs.corkhollow_start.Tie as tie
 
@@ -26,26 +25,7 @@ same-length-2 : tie.Need-same-length-2
 same-length-2 c = search needs
 
 returns : tie.Need-returns
-returns c =
-    let p = c .before .before .before .before .before .before .before .before .start .ensures in
-    let a = c .before .before .before .before .before .before .before .before .before .before .before .before .before .before .before .args in
-    let o = startOf (a .program .now) (a .inputs .now) (a .registers .now) (a .outputs .now) (a .budget) in
-    let e = rw (c .before .before .why .given .1) at (p .0) in (
-      refused-returned (λ (x : Ended ℕ). x .answer) o _ e _ (c .number .ensures),
-      (
-        p .1 .0,
-        (
-          p .1 .1,
-          (
-            refused-told (λ (x : Ended ℕ). x .answer) o _ e (λ (x : Ended ℕ). x .answer .position) _,
-            (
-              refused-told (λ (x : Ended ℕ). x .answer) o _ e (λ (x : Ended ℕ). x .answer .count) _,
-              refused-told (λ (x : Ended ℕ). x .answer) o _ e (λ (x : Ended ℕ). x .answer .finished) _,
-            ),
-          ),
-        ),
-      ),
-    )
+returns c = runs ran _ _ _ _ (c .before .before .why .given .1) (search) (search) (search) (c .number .ensures) refl refl refl
 
 same-length-3 : tie.Need-same-length-3
 same-length-3 c = search needs
@@ -54,26 +34,7 @@ same-length-4 : tie.Need-same-length-4
 same-length-4 c = search needs
 
 returns-2 : tie.Need-returns-2
-returns-2 c =
-    let p = c .before .before .before .before .before .before .before .start .ensures in
-    let a = c .before .before .before .before .before .before .before .before .before .before .before .before .before .before .args in
-    let o = startOf (a .program .now) (a .inputs .now) (a .registers .now) (a .outputs .now) (a .budget) in
-    let e = rw (c .before .run .given .1) at (p .0) in (
-      given-returned (λ (x : Ended ℕ). x .answer) o _ e,
-      (
-        p .1 .0,
-        (
-          p .1 .1,
-          (
-            given-told (λ (x : Ended ℕ). x .answer) o _ e (λ (r : Run). r .position) _,
-            (
-              given-told (λ (x : Ended ℕ). x .answer) o _ e (λ (r : Run). r .count) _,
-              given-told (λ (x : Ended ℕ). x .answer) o _ e (λ (r : Run). r .finished) _,
-            ),
-          ),
-        ),
-      ),
-    )
+returns-2 c = runs ran _ _ _ _ (c .before .run .given .1) (search) (search) (search) refl refl refl refl
 
 pub corkhollow-start-spec : {M : Type 1} → statement M
 corkhollow-start-spec =

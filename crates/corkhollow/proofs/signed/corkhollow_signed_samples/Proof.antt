@@ -1,10 +1,8 @@
 -- `corkhollow::corkhollow_signed_samples` meets its contract. Assumes nothing.
+use mathlib.Core.Path.{refl}
 use borrow.Author.Needs.{needs}
-use mathlib.Core.List.{List}
-use lib.IntN.{ℤ}
-use lib.ListN.{length}
-use Rattle.lanes.specs.Samples.{signedSamplesOf}
-use Rattle.corkhollow.specs.Calls.{refused-returned, given-returned}
+use Rattle.lanes.specs.Samples.{sampled}
+use Rattle.corkhollow.specs.Calls.{lays}
 use Rattle.corkhollow.proofs.signed.corkhollow_signed_samples.Statement.{statement}
 use Rattle.corkhollow.proofs.signed.corkhollow_signed_samples.Tie as tie
 
@@ -24,23 +22,13 @@ same-length : tie.Need-same-length
 same-length c = search needs
 
 returns : tie.Need-returns
-returns c =
-    let p = c .before .before .before .before .before .signed-samples .ensures in
-    let a = c .before .before .before .before .before .before .before .before .args in
-    let o = signedSamplesOf (a .outputs .now) (a .sign) (length (a .samples .now)) in
-    let e = rw (c .before .before .why .given .1) at (p .0) in
-    (refused-returned (λ (xs : List ℤ). tt) o _ e _ (c .number .ensures), p .1)
+returns c = lays sampled (λ xs. tt) _ (c .before .before .why .given .1) (search) (c .number .ensures)
 
 same-length-2 : tie.Need-same-length-2
 same-length-2 c = search needs
 
 returns-2 : tie.Need-returns-2
-returns-2 c =
-    let p = c .before .before .before .signed-samples .ensures in
-    let a = c .before .before .before .before .before .before .args in
-    let o = signedSamplesOf (a .outputs .now) (a .sign) (length (a .samples .now)) in
-    let e = rw (c .enum-told .given .1) at (p .0) in
-    (given-returned (λ (xs : List ℤ). tt) o _ e, p .1)
+returns-2 c = lays sampled (λ xs. tt) _ (c .enum-told .given .1) (search) refl
 
 pub corkhollow-signed-samples-spec : {M : Type 1} → statement M
 corkhollow-signed-samples-spec =
