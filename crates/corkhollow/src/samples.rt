@@ -1,5 +1,5 @@
-// For C: words sliced, samples read, and batches drawn in one call (include/corkhollow.h). Each function returns 0 or the refusal's
-// number, and has the contract of the operation that it wraps.
+// For C: words sliced, and samples read (include/corkhollow.h). Each function returns 0 or the refusal's number, and has the contract of
+// the operation that it wraps.
 ghost use mathlib.Core.Path.{_≡_};
 ghost use lib.ListN.{length};
 ghost use Rattle.laws.specs.Lay.{lay};
@@ -7,9 +7,6 @@ ghost use Rattle.laws.specs.Outcome.{laid};
 ghost use Rattle.lanes.specs.Slicing.{sliceOf};
 ghost use Rattle.lanes.specs.Samples.{samplesOf};
 ghost use Rattle.corkhollow.specs.Calls.{returned};
-ghost use Rattle.drawing.specs.Drawing.{drawOf};
-use drawing::Drawn;
-use drawing::draw;
 use files::number;
 use lanes::Sampled;
 use lanes::Sliced;
@@ -41,20 +38,5 @@ pub extern "C" fn corkhollow_samples(outputs: &[u64], samples: &mut [u8]) -> u32
     match lanes::samples(outputs, samples) {
         Sampled::Refused(why) => number(why),
         Sampled::All => 0,
-    }
-}
-
-// Draws 64 samples from a program and 64 strings.
-#[no_mangle]
-pub extern "C" fn corkhollow_draw(program: &[u8], strings: &[u8], samples: &mut [u8]) -> u32
-    ensures { λ r. ⌜ (
-        let o = drawOf (now (program .entry)) (now (strings .entry)) (length (now (samples .entry))) in
-        (r ≡ returned o) ×
-        (now (samples .exit) ≡ lay (laid (λ xs. xs) o) (now (samples .entry)))
-        ) ⌝ }
-{
-    match draw(program, strings, samples) {
-        Drawn::Refused(why) => number(why),
-        Drawn::All => 0,
     }
 }

@@ -4,7 +4,7 @@ use borrow.Author.Needs.{needs}
 use lib.ListN.{replicate}
 use Rattle.laws.specs.Outcome.{ends-refused}
 use Rattle.programs.specs.Limits.{most-inputs}
-use Rattle.drawing.specs.Drawing.{batch-headless, batch-strings, batch-short, batch-refused, batch-done}
+use Rattle.drawing.specs.OwnWords.{batch-headless, batch-strings, batch-short, batch-ends}
 use Rattle.drawing.proofs.run_batch.Statement.{statement}
 use Rattle.drawing.proofs.run_batch.Tie as tie
 
@@ -81,8 +81,9 @@ returns-4 c =
     let head = rw (asked .p .given .1) at (asked .before .before .read-header .ensures) in
     let many = rw (cut .enum-told .given .1) at (cutting .slice .ensures .0) in
     let room = asked .before .before .before .before .before .before .before .pre in
-    batch-refused _ _ _ _ head (replicate most-inputs 0) (search needs) (run .before .before .before .before .if1 .left) _ _ (room .0) (room .1) _
-    many _ (cutting .slice .ensures .1) _ (run .start .ensures .1 .1) _ (rw (c .before .why3 .given .1) at (run .start .ensures .0))
+    let enough = run .before .before .before .before .if1 .left in
+    batch-ends _ _ _ _ head (replicate most-inputs 0) (search needs) enough _ _ (room .0) (room .1) _ many _ (cutting .slice .ensures .1)
+    _ _ (rw (c .before .why3 .given .1) at (run .start .ensures .0)) (search)
 
 same-length-3 : tie.Need-same-length-3
 same-length-3 c = search needs
@@ -99,8 +100,9 @@ returns-5 c =
     let head = rw (asked .p .given .1) at (asked .before .before .read-header .ensures) in
     let many = rw (cut .enum-told .given .1) at (cutting .slice .ensures .0) in
     let room = asked .before .before .before .before .before .before .before .pre in
-    batch-done _ _ _ _ head (replicate most-inputs 0) (search needs) (run .before .before .before .before .if1 .left) _ _ (room .0) (room .1) _
-    many _ (cutting .slice .ensures .1) _ (run .start .ensures .1 .1) _ (rw (c .enum-told2 .given .1) at (run .start .ensures .0))
+    let enough = run .before .before .before .before .if1 .left in
+    batch-ends _ _ _ _ head (replicate most-inputs 0) (search needs) enough _ _ (room .0) (room .1) _ many _ (cutting .slice .ensures .1)
+    _ _ (rw (c .enum-told2 .given .1) at (run .start .ensures .0)) (search)
 
 pub run-batch-spec : {M : Type 1} → statement M
 run-batch-spec =

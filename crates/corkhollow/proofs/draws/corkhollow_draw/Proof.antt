@@ -1,10 +1,10 @@
 -- `corkhollow::corkhollow_draw` meets its contract. Assumes nothing.
 use mathlib.Core.Path.{refl}
 use borrow.Author.Needs.{needs}
-use Rattle.drawing.specs.Drawing.{drawn}
+use Rattle.lanes.specs.Samples.{sampled}
 use Rattle.corkhollow.specs.Calls.{lays}
-use Rattle.corkhollow.proofs.samples.corkhollow_draw.Statement.{statement}
-use Rattle.corkhollow.proofs.samples.corkhollow_draw.Tie as tie
+use Rattle.corkhollow.proofs.draws.corkhollow_draw.Statement.{statement}
+use Rattle.corkhollow.proofs.draws.corkhollow_draw.Tie as tie
 
 draw-requires : tie.Need-draw-requires
 draw-requires c κs = search needs
@@ -22,13 +22,13 @@ same-length : tie.Need-same-length
 same-length c = search needs
 
 returns : tie.Need-returns
-returns c = lays drawn (λ xs. tt) _ (c .before .before .why .given .1) (search) (c .number .ensures)
+returns c = lays sampled (λ xs. tt) _ (c .before .before .why .given .1) (search) (c .number .ensures)
 
 same-length-2 : tie.Need-same-length-2
 same-length-2 c = search needs
 
 returns-2 : tie.Need-returns-2
-returns-2 c = lays drawn (λ xs. tt) _ (c .enum-told .given .1) (search) refl
+returns-2 c = lays sampled (λ xs. tt) _ (c .enum-told .given .1) (search) refl
 
 pub corkhollow-draw-spec : {M : Type 1} → statement M
 corkhollow-draw-spec =
