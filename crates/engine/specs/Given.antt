@@ -13,8 +13,8 @@ use Rattle.walk.specs.Walk.{Answer, sample, missed}
 use Rattle.lanes.specs.Slicing.{lanes}
 use Rattle.lanes.specs.Samples.{sampleOf}
 
--- what may be chosen anew for each string: the lane that carries it, the input words with anything in the other lanes, what registers and outputs
--- hold before, and the budget
+-- what may be chosen anew for each string: the lane that carries it, the input words with anything in the other lanes, what registers and
+-- outputs hold before, and the budget
 pub record Choice : Type 0 where
   pub lane : ℕ
   pub inputs : List ℕ
@@ -22,8 +22,8 @@ pub record Choice : Type 0 where
   pub outputs : List ℕ
   pub budget : ℕ
 
--- the lane is one of 64, words have 64 bits, the lane of the input words carries the string, registers and outputs are at least as many as the
--- header names, and the budget is no smaller than the instruction count
+-- the lane is one of 64, words have 64 bits, the lane of the input words carries the string, registers and outputs are at least as many as
+-- the header names, and the budget is no smaller than the instruction count
 pub record Fair (p : Program) (string : List ℕ) (c : Choice) : Type 0 where
   pub in-word : c .lane < lanes
   pub words : (i : ℕ) → getD (c .inputs) i 0 < 2 ^ lanes

@@ -20,7 +20,8 @@ use Rattle.lanes.specs.Slicing.{lanes}
 use Rattle.lanes.specs.Samples.{sampleOf, hits, spelled}
 use Rattle.compiler.specs.Translation.{translation, program, compiled, rowBits}
 use Rattle.compiler.specs.Computes.{givenBy, carried}
-use Rattle.compiler.specs.Starting.{whole, fresh, start-compiled, start-gives}
+use Rattle.compiler.specs.Starting.{fresh, start-compiled, start-gives}
+use Rattle.engine.specs.Given.{Choice}
 
 -- the bits of lane j, one for each of the first n words
 abbrev pub laneBits : ℕ → List ℕ → ℕ → List ℕ
@@ -36,59 +37,93 @@ pack-sum zero f = refl
 pack-sum (suc k) f = omega (arith, pack-sum k f)
 
 -- the sample that a lane of the output words spells is the one that the lane's bits give
-lane-given : (outputs : List ℕ) (j k : ℕ) → length outputs ≡ 1 + k → sampleOf outputs j ≡ givenBy k (λ o. bitAt (getD outputs o 0) j)
+lane-given : (outputs : List ℕ) (j k : ℕ) → length outputs ≡ 1 + k →
+    sampleOf outputs j ≡ givenBy k (λ o. bitAt (getD outputs o 0) j)
 unfolding sampleOf hits spelled givenBy
 lane-given outputs j k e =
     let m : length outputs - 1 ≡ k = omega arith in
     let s : sumTo k (λ t. bitAt (getD outputs (t + 1) 0) j * 2 ^ t) ≡ sumTo k (λ t. bitAt (getD outputs (1 + t) 0) j * 2 ^ t) =
     sum-eq k (λ t. bitAt (getD outputs (t + 1) 0) j * 2 ^ t) (λ t. bitAt (getD outputs (1 + t) 0) j * 2 ^ t)
     (λ t l. ap (λ (i : ℕ). bitAt (getD outputs i 0) j * 2 ^ t) (add-comm t 1)) in
-    rw m (ap (λ (x : ℕ). cond (eqb (bitAt (getD outputs 0 0) j) 1) (sample x) missed) (pack-sum k (λ t. bitAt (getD outputs (t + 1) 0) j) ∙ s))
+    rw m
+    (ap (λ (x : ℕ). cond (eqb (bitAt (getD outputs 0 0) j) 1) (sample x) missed)
+    (pack-sum k (λ t. bitAt (getD outputs (t + 1) 0) j) ∙ s))
 
 given-eq : (k : ℕ) (f g : ℕ → ℕ) → ((o : ℕ) → f o ≡ g o) → givenBy k f ≡ givenBy k g
 given-eq k f g e = ap (givenBy k) (mathlib.Core.Path.fun-ext e)
 
--- ---- the theorem
-module _ (M : Matrix) (a : Accepted M) (inputs registers outputs : List ℕ) (budget j : ℕ) (jl : j < lanes) (small : (i : ℕ) → getD inputs i 0 < 2 ^ lanes)
-    (i : program M .inputs ≤ length inputs) (r : program M .registers ≤ length registers) (o : program M .outputs ≤ length outputs)
-    (enough : program M .count ≤ budget) where
-  -- where the start ends
-  unfoldable pub ended : Ended ℕ
-  ended = whole words (translation M) inputs budget (fresh words M)
+-- ---- a start of a compiled program
+-- what must be there of a choice: a lane of 64-bit words, and as many words and instructions as the program's header names
+pub record Startable (M : Matrix) (c : Choice) : Type 0 where
+  pub in-word : c .lane < lanes
+  pub small : (i : ℕ) → getD (c .inputs) i 0 < 2 ^ lanes
+  pub for-inputs : program M .inputs ≤ length (c .inputs)
+  pub for-registers : program M .registers ≤ length (c .registers)
+  pub for-outputs : program M .outputs ≤ length (c .outputs)
+  pub enough : program M .count ≤ c .budget
 
-  pub start-is : startOf (compiled M) inputs registers outputs budget ≡ gives ended
-  unfolding ended
-  start-is = start-compiled words M a inputs registers outputs budget i r o enough
-
-  columns-are : program M .inputs ≡ M .columns
-  unfolding program
-  columns-are = refl
-
-  outputs-are : program M .outputs ≡ 1 + rowBits (M .rows)
-  unfolding program
-  outputs-are = refl
-
+-- where the start ends: with the hit and the bits of a row number in its outputs
+pub record Starts (M : Matrix) (c : Choice) : Type 0 where
+  pub ended : Ended ℕ
+  pub is : startOf (compiled M) (c .inputs) (c .registers) (c .outputs) (c .budget) ≡ gives ended
   pub long : length (ended .state .outputs) ≡ 1 + rowBits (M .rows)
-  unfolding ended
-  long = exec-long words inputs (translation M) (fresh words M) .1 ∙ (length-replicate {A = ℕ} (program M .outputs) 0 ∙ outputs-are)
+
+pub outputs-many : (M : Matrix) → program M .outputs ≡ 1 + rowBits (M .rows)
+unfolding program
+outputs-many M = refl
+
+columns-many : (M : Matrix) → program M .inputs ≡ M .columns
+unfolding program
+columns-many M = refl
+
+module _ (M : Matrix) (a : Accepted M) (c : Choice) (g : Startable M c) where
+  pub starts : Starts M c
+  starts =
+      record {
+        ended = _;
+        is =
+            start-compiled words M a (c .inputs) (c .registers) (c .outputs) (c .budget) (g .for-inputs) (g .for-registers)
+            (g .for-outputs) (g .enough);
+        long =
+            exec-long words (c .inputs) (translation M) (fresh words M) .1 ∙
+            (length-replicate {A = ℕ} (program M .outputs) 0 ∙ outputs-many M);
+      }
 
   -- the lane's start, with bits for words
-  lane-is : startOn bits (compiled M) (map (lane j) inputs) (map (lane j) registers) (map (lane j) outputs) budget ≡ gives (mapEnded (lane j) ended)
-  lane-is = sym (lane-start j jl inputs small (compiled M) registers outputs budget) ∙ ap (mapped (mapEnded (lane j))) start-is
+  abbrev projected : List ℕ → List ℕ
+  projected = map (lane (c .lane))
 
-  carried-is : carried M (map (lane j) inputs) ≡ laneBits (M .columns) inputs j
-  carried-is = upto-eq (M .columns) (λ c. getD (map (lane j) inputs) c 0) (λ c. bitAt (getD inputs c 0) j) (λ c l. getD-lane j inputs c)
+  lane-is : startOn bits (compiled M) (projected (c .inputs)) (projected (c .registers)) (projected (c .outputs)) (c .budget) ≡
+      gives (mapEnded (lane (c .lane)) (starts .ended))
+  lane-is =
+      sym (lane-start (c .lane) (g .in-word) (c .inputs) (g .small) (compiled M) (c .registers) (c .outputs) (c .budget)) ∙
+      ap (mapped (mapEnded (lane (c .lane)))) (starts .is)
 
-  -- lane j of the outputs gives what the walk draws on lane j's bits
-  pub lane-draws : mapped (λ e. sampleOf (e .state .outputs) j) (startOf (compiled M) inputs registers outputs budget) ≡
-      gives (answerOf (drawn M (laneBits (M .columns) inputs j)))
-  lane-draws =
-      rw start-is
-      (ap gives
-      (lane-given (ended .state .outputs) j (rowBits (M .rows)) long ∙
-      (given-eq (rowBits (M .rows)) (λ o. bitAt (getD (ended .state .outputs) o 0) j) (λ o. getD (map (lane j) (ended .state .outputs)) o 0)
-      (λ o. sym (getD-lane j (ended .state .outputs) o)) ∙
-      (start-gives M a (map (lane j) inputs) (map (lane j) registers) (map (lane j) outputs) budget
-      (λ c l. rw (getD-lane j inputs c) (omega (arith, bitAt-lt (getD inputs c 0) j))) (rw (length-map inputs (lane j)) (omega (arith, columns-are)))
-      (rw (length-map registers (lane j)) r) (rw (length-map outputs (lane j)) o) enough (mapEnded (lane j) ended) lane-is ∙
-      ap (λ (l : List ℕ). answerOf (drawn M l)) carried-is))))
+  inputs-carried : carried M (projected (c .inputs)) ≡ laneBits (M .columns) (c .inputs) (c .lane)
+  inputs-carried =
+      upto-eq (M .columns) (λ i. getD (projected (c .inputs)) i 0) (λ i. bitAt (getD (c .inputs) i 0) (c .lane))
+      (λ i l. getD-lane (c .lane) (c .inputs) i)
+
+  -- the lane's bits of the outputs give what the walk draws on the lane's bits of the inputs
+  bits-give : givenBy (rowBits (M .rows)) (λ o. getD (projected (starts .ended .state .outputs)) o 0) ≡
+      answerOf (drawn M (laneBits (M .columns) (c .inputs) (c .lane)))
+  bits-give =
+      start-gives M a (projected (c .inputs)) (projected (c .registers)) (projected (c .outputs)) (c .budget)
+      (λ i l. rw (getD-lane (c .lane) (c .inputs) i) (omega (arith, bitAt-lt (getD (c .inputs) i 0) (c .lane))))
+      (rw (length-map (c .inputs) (lane (c .lane))) (omega (arith, columns-many M, g .for-inputs)))
+      (rw (length-map (c .registers) (lane (c .lane))) (g .for-registers)) (rw (length-map (c .outputs) (lane (c .lane))) (g .for-outputs))
+      (g .enough) (mapEnded (lane (c .lane)) (starts .ended)) lane-is ∙
+      ap (λ (l : List ℕ). answerOf (drawn M l)) inputs-carried
+
+  -- so does the lane of the output words
+  pub lane-says : sampleOf (starts .ended .state .outputs) (c .lane) ≡ answerOf (drawn M (laneBits (M .columns) (c .inputs) (c .lane)))
+  lane-says =
+      lane-given (starts .ended .state .outputs) (c .lane) (rowBits (M .rows)) (starts .long) ∙
+      (given-eq (rowBits (M .rows)) (λ o. bitAt (getD (starts .ended .state .outputs) o 0) (c .lane))
+      (λ o. getD (projected (starts .ended .state .outputs)) o 0) (λ o. sym (getD-lane (c .lane) (starts .ended .state .outputs) o)) ∙
+      bits-give)
+
+  pub lane-draws : mapped (λ e. sampleOf (e .state .outputs) (c .lane))
+      (startOf (compiled M) (c .inputs) (c .registers) (c .outputs) (c .budget)) ≡
+      gives (answerOf (drawn M (laneBits (M .columns) (c .inputs) (c .lane))))
+  lane-draws = rw (starts .is) (ap gives lane-says)
