@@ -101,7 +101,8 @@ module _ (program strings : List ℕ) (room : ℕ) where
     unfolding drawnWith
     batch-starts inputs registers outputs r same =
         rw (d .accepted, d .sliced, le-ltb room lanes (d .enough))
-        (rw (start-agrees words program (d .code) (d .accepted) (header .count) (d .inputs) _ _ inputs registers outputs own-room r same)
+        (rw
+        (start-agrees words program (d .code) (d .accepted) (header .count) (d .inputs) _ _ inputs registers outputs own-room r same)
         (bind-is (startOf program inputs registers outputs (header .count)) outputsOf))
 
     -- as many outputs as the header says
