@@ -1,12 +1,13 @@
 -- Drawing in one call, beyond what 01 lists: a program is checked, 64 strings are sliced, the program is started on words of the engine's
 -- own, and its outputs are read. Assumes nothing.
-use Prim.Native.Nat.{ℕ}
+use Prim.Native.Nat.{ℕ, _≤_}
 use mathlib.Core.List.{List}
 use lib.Dec.{ltb}
 use lib.IntN.{ℤ}
 use lib.ListN.{replicate}
 use Rattle.laws.specs.Outcome.{Outcome, refused, gives, refuse, _>>_, _>>=_}
 use Rattle.files.specs.Refusal.{numberOf}
+use Rattle.programs.specs.Limits.{most-outputs}
 use Rattle.machine.specs.Checks.{checkOf}
 use Rattle.machine.specs.Runs.{startOf}
 use Rattle.lanes.specs.Slicing.{lanes, sliceOf}
@@ -45,3 +46,8 @@ afterOwn program n = do
 abbrev pub batched : Batch → Outcome ℕ
 batched (Batch.Refused why) = refused (numberOf why)
 batched (Batch.Outputs n) = gives n
+
+-- no more outputs than a program may have
+abbrev pub few : Batch → Type 0
+few (Batch.Refused why) = Unit {0}
+few (Batch.Outputs n) = n ≤ most-outputs

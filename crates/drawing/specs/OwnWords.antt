@@ -3,12 +3,12 @@ use Prim.Native.Nat.{ℕ, _≤_, _<_}
 use mathlib.Core.Path.{_≡_, refl, sym, ap, _∙_, subst}
 use mathlib.Core.List.{List}
 use native.Mathlib.Omega.{arith}
-use borrow.Author.Tests.{lt-ltb, le-ltb, ltb-false}
+use borrow.Author.Tests.{lt-ltb, le-ltb}
 use lib.Dec.{ltb}
 use lib.ListN.{length, take, getD, replicate, length-replicate}
 use Rattle.laws.specs.Lay.{lay, length-lay, length-upto, at-front, take-lay}
-use Rattle.laws.specs.Outcome.{Outcome, refused, gives, refuse, _>>=_, mapped, laid, passed, bound, gives-inj, mapped-gives}
-use Rattle.laws.specs.Outcome.{mapped-refused, mapped-mapped, bind-is, bind-after, then-after, laid-mapped, ends-refused}
+use Rattle.laws.specs.Outcome.{Outcome, refused, gives, refuse, _>>=_, mapped, laid, gives-inj, mapped-gives}
+use Rattle.laws.specs.Outcome.{mapped-refused, mapped-mapped, no-result, bind-is, bind-after, then-after, laid-mapped, ends-refused}
 use Rattle.files.specs.Fields.{width}
 use Rattle.files.specs.Refusal.{numberOf}
 use Rattle.files.specs.declared.refusals.Refusal.{Refusal}
@@ -26,7 +26,7 @@ use Rattle.machine.specs.Resuming.{Room, Enough, cleared, start-is, admitted-gi
 use Rattle.machine.specs.declared.runs.Run.{Run}
 use Rattle.lanes.specs.Slicing.{lanes, sliceOf, wordOf}
 use Rattle.lanes.specs.Lanes.{cut}
-use Rattle.drawing.specs.Drawing.{drawnWith, batchOf, afterOwn, batched}
+use Rattle.drawing.specs.Drawing.{drawnWith, batchOf, afterOwn, batched, few}
 use Rattle.drawing.specs.declared.Batch.{Batch}
 use Rattle.drawing.specs.declared.Batch.the-variants as Batch
 
@@ -61,62 +61,40 @@ module _ {A : Type 0} (G : Gates A) (file : List ℕ) (c : Code) (ok : checkOf f
       (record { for-inputs = room′ .for-inputs; for-registers = room .for-registers; for-outputs = room .for-outputs }))
       (enough-of inputs′ registers′ outputs′ room′)
 
--- ---- when a batch gives outputs, and which
--- the program is accepted, the strings are sliced, and there is room for the samples
-pub record Drawable (program strings : List ℕ) (room : ℕ) : Type 0 where
-  pub code : Code
-  pub accepted : checkOf program ≡ gives code
-  pub inputs : List ℕ
-  pub sliced : sliceOf (code .program .inputs) strings (code .program .inputs) ≡ gives inputs
-  pub enough : lanes ≤ room
+  -- its outputs are as many as the header says
+  start-long : (inputs registers outputs : List A) → Room (c .program) inputs registers outputs → (e : Ended A) →
+      startOn G file inputs registers outputs budget ≡ gives e → length (e .state .outputs) ≡ c .program .outputs
+  unfolding runOf
+  start-long inputs registers outputs room e q =
+      ap (λ (x : Ended A). length (x .state .outputs)) (gives-inj (sym q ∙ start-runs inputs registers outputs room)) ∙
+      (exec-long G inputs _ (cleared G (c .program)) .1 ∙ length-replicate {A = A} (c .program .outputs) (G .zeros))
 
+-- ---- a batch of an accepted program whose strings are sliced, with room for the samples
 sliced-long : (n : ℕ) (strings : List ℕ) (r : ℕ) (ws : List ℕ) → sliceOf n strings r ≡ gives ws → length ws ≡ n
 sliced-long n strings r ws e = ap length (cut n strings r ws e .is) ∙ length-upto n (wordOf strings (width n))
 
-module _ (program strings : List ℕ) (room : ℕ) where
-  batch-drawable : (outputs : List ℕ) → batchOf program strings room ≡ gives outputs → Drawable program strings room
+module _ (program strings : List ℕ) (room : ℕ) (c : Code) (ok : checkOf program ≡ gives c) (ws : List ℕ)
+    (sliced : sliceOf (c .program .inputs) strings (c .program .inputs) ≡ gives ws) (enough : lanes ≤ room) where
+  abbrev header : Program
+  header = c .program
+
+  own-room : Room header ws (replicate (header .registers) 0) (replicate (header .outputs) 0)
+  own-room =
+      record {
+        for-inputs = omega (arith, sliced-long (header .inputs) strings (header .inputs) ws sliced);
+        for-registers = omega (arith, length-replicate {A = ℕ} (header .registers) 0);
+        for-outputs = omega (arith, length-replicate {A = ℕ} (header .outputs) 0);
+      }
+
+  -- it has the outputs of a start on any words that are long enough and begin with those that are sliced
+  batch-starts : (inputs registers outputs : List ℕ) → Room header inputs registers outputs →
+      ((k : ℕ) → k < header .inputs → getD ws k 0 ≡ getD inputs k 0) →
+      batchOf program strings room ≡ mapped outputsOf (startOf program inputs registers outputs (header .count))
   unfolding drawnWith
-  batch-drawable outputs e =
-      let c1 = bound (checkOf program) _ outputs e in
-      let c2 = bound (sliceOf (c1 .0 .program .inputs) strings (c1 .0 .program .inputs)) _ outputs (c1 .2) in
-      let c3 = passed 13 (ltb room lanes) _ outputs (c2 .2) in
-      record { code = c1 .0; accepted = c1 .1; inputs = c2 .0; sliced = c2 .1; enough = ltb-false room lanes (c3 .0) }
-
-  module _ (d : Drawable program strings room) where
-    abbrev header : Program
-    header = d .code .program
-
-    own-room : Room header (d .inputs) (replicate (header .registers) 0) (replicate (header .outputs) 0)
-    own-room =
-        record {
-          for-inputs = omega (arith, sliced-long (header .inputs) strings (header .inputs) (d .inputs) (d .sliced));
-          for-registers = omega (arith, length-replicate {A = ℕ} (header .registers) 0);
-          for-outputs = omega (arith, length-replicate {A = ℕ} (header .outputs) 0);
-        }
-
-    -- the outputs of a start on any words that are long enough and begin with those that are sliced
-    batch-starts : (inputs registers outputs : List ℕ) → Room header inputs registers outputs →
-        ((k : ℕ) → k < header .inputs → getD (d .inputs) k 0 ≡ getD inputs k 0) →
-        batchOf program strings room ≡ mapped outputsOf (startOf program inputs registers outputs (header .count))
-    unfolding drawnWith
-    batch-starts inputs registers outputs r same =
-        rw (d .accepted, d .sliced, le-ltb room lanes (d .enough))
-        (rw
-        (start-agrees words program (d .code) (d .accepted) (header .count) (d .inputs) _ _ inputs registers outputs own-room r same)
-        (bind-is (startOf program inputs registers outputs (header .count)) outputsOf))
-
-    -- as many outputs as the header says
-    batch-long : (outputs : List ℕ) → batchOf program strings room ≡ gives outputs → length outputs ≡ header .outputs
-    unfolding drawnWith runOf
-    batch-long outputs e =
-        let g = rw (
-          d .accepted,
-          d .sliced,
-          le-ltb room lanes (d .enough),
-          start-runs words program (d .code) (d .accepted) (header .count) (d .inputs) _ _ own-room,
-        ) at e in
-        ap length (sym (gives-inj g)) ∙
-        (exec-long words (d .inputs) _ (cleared words header) .1 ∙ length-replicate {A = ℕ} (header .outputs) 0)
+  batch-starts inputs registers outputs r same =
+      rw (ok, sliced, le-ltb room lanes enough)
+      (rw (start-agrees words program c ok (header .count) ws _ _ inputs registers outputs own-room r same)
+      (bind-is (startOf program inputs registers outputs (header .count)) outputsOf))
 
 -- ---- the header that is read first is that of the accepted program
 header-same : (program : List ℕ) (p : Program) (c : Code) → headerOf program ≡ gives p → checkOf program ≡ gives c → c .program ≡ p
@@ -124,13 +102,6 @@ header-same program p c head ok = gives-inj (sym (check-says program c ok .0) �
 
 header-within : (program : List ℕ) (p : Program) → headerOf program ≡ gives p → Within p
 header-within program p head = within-means p (header-reads program p head .inside)
-
-batch-many : (program strings : List ℕ) (room : ℕ) (p : Program) (outputs : List ℕ) → headerOf program ≡ gives p →
-    batchOf program strings room ≡ gives outputs → length outputs ≡ p .outputs
-batch-many program strings room p outputs head e =
-    let d = batch-drawable program strings room outputs e in
-    batch-long program strings room d outputs e ∙
-    ap (λ (p : Program). p .outputs) (header-same program p (d .code) head (d .accepted))
 
 -- ---- refusals that come after the program's own
 refused-after : {A B : Type 0} (o : Outcome A) (f : A → Outcome B) (n k : ℕ) → ((a : A) → o ≡ gives a → f a ≡ refused n) →
@@ -215,23 +186,33 @@ module _ (program strings : List ℕ) (room : ℕ) where
                 ap (mapped outputsOf) (sym (start-refuses program (lay ws blank) registers outputs (p .count) k ok))
             by (gives c) ok =
                 let q = header-same program p c (sym head) ok in
-                let d : Drawable program strings room =
-                record { code = c; accepted = ok; inputs = ws; sliced = slice-own c ok ∙ sliced; enough = enough } in
-                batch-starts program strings room d (lay ws blank) registers outputs (rw q own-words)
+                batch-starts program strings room c ok ws (slice-own c ok ∙ sliced) enough (lay ws blank) registers outputs (rw q own-words)
                 (λ k l. sym (at-front ws blank k 0 (omega (arith, ws-long, rw q at l)))) ∙
                 ap (λ (r : Program). mapped outputsOf (startOf program (lay ws blank) registers outputs (r .count))) q
+
+        own-long : (e : Ended ℕ) → startOf program (lay ws blank) registers outputs (p .count) ≡ gives e →
+            length (e .state .outputs) ≡ p .outputs
+        own-long e q = by (checkOf program) refl
+          where
+            by : (o : Outcome Code) → checkOf program ≡ o → length (e .state .outputs) ≡ p .outputs
+            by (refused k) ok = no-result k e (sym (start-refuses program (lay ws blank) registers outputs (p .count) k ok) ∙ q)
+            by (gives c) ok =
+                let r = header-same program p c (sym head) ok in
+                start-long words program c ok (p .count) (lay ws blank) registers outputs (rw r own-words) e q ∙
+                ap (λ (r : Program). r .outputs) r
 
       module _ (m : ℕ) (s : gives m ≡ mapped length slices) (inputs : List ℕ)
           (laid-words : inputs ≡ lay (laid (λ xs. xs) slices) blank) where
         abbrev ending : Outcome (Ended ℕ)
         ending = startOf program inputs registers outputs (p .count)
 
+        own-inputs : inputs ≡ lay (mapped-gives length slices m s .0) blank
+        own-inputs =
+            laid-words ∙ ap (λ (o : Outcome (List ℕ)). lay (laid (λ xs. xs) o) blank) (mapped-gives length slices m s .1)
+
         -- a batch is a start on the words of the engine's own
         batch-is : batchOf program strings room ≡ mapped outputsOf ending
-        batch-is =
-            let g = mapped-gives length slices m s in
-            let i : inputs ≡ lay (g .0) blank = laid-words ∙ ap (λ (o : Outcome (List ℕ)). lay (laid (λ xs. xs) o) blank) (g .1) in
-            rw i (start-own (g .0) (g .1))
+        batch-is = rw own-inputs (start-own (mapped-gives length slices m s .0) (mapped-gives length slices m s .1))
 
         -- and has as many outputs as its header says
         batch-counts : mapped length (batchOf program strings room) ≡ mapped (λ e. p .outputs) ending
@@ -240,8 +221,8 @@ module _ (program strings : List ℕ) (room : ℕ) where
             by : (o : Outcome (Ended ℕ)) → ending ≡ o → mapped length (batchOf program strings room) ≡ mapped (λ e. p .outputs) o
             by (refused k) e = ap (mapped length) (batch-is ∙ ap (mapped outputsOf) e)
             by (gives x) e =
-                let whole = batch-is ∙ ap (mapped outputsOf) e in
-                ap (mapped length) whole ∙ ap gives (batch-many program strings room p (x .state .outputs) (sym head) whole)
+                ap (mapped length) (batch-is ∙ ap (mapped outputsOf) e) ∙
+                ap gives (own-long (mapped-gives length slices m s .0) (mapped-gives length slices m s .1) x (rw own-inputs at e))
 
         -- so it ends, refused or done, as the start did
         pub batch-ends : (outputs′ : List ℕ) (a : Outcome Run) → a ≡ mapped (λ e. e .answer) ending →
@@ -274,15 +255,14 @@ read-front read o n xs outputs blank e q l =
     rw (e, front, take-lay n xs blank q)
 
 -- ---- as code has it: the batch answers x, and leaves its outputs at the front of blank words
-module _ (program strings : List ℕ) (room : ℕ) {x : Batch} where
-  -- no more outputs than a program may have
-  pub batch-few : {n : ℕ} → x ≡ Batch.Outputs n → batched x ≡ mapped length (batchOf program strings room) → n ≤ most-outputs
-  batch-few {n} c e =
-      let g = mapped-gives length (batchOf program strings room) n (rw c at e) in
-      let d = batch-drawable program strings room (g .0) (g .1) in
-      let head = check-says program (d .code) (d .accepted) .0 in
-      omega (arith, g .2, batch-long program strings room d (g .0) (g .1), header-within program (d .code .program) head .few-outputs)
+-- no more of them than a program may have
+pub batch-few : (program : List ℕ) (p : Program) → gives p ≡ headerOf program → p .outputs ≤ most-outputs
+batch-few program p head = header-within program p (sym head) .few-outputs
 
+pub few-of : {x : Batch} {n : ℕ} → x ≡ Batch.Outputs n → few x → n ≤ most-outputs
+few-of c e = rw c at e
+
+module _ (program strings : List ℕ) (room : ℕ) {x : Batch} where
   module _ {A : Type 0} (read : List ℕ → Outcome (List A)) (samples : List A) where
     pub drawn-refused : {why : Refusal} → x ≡ Batch.Refused why → batched x ≡ mapped length (batchOf program strings room) →
         (refused (numberOf why) ≡ mapped {B = Unit {0}} (λ xs. tt) (drawnWith program strings room read)) ×

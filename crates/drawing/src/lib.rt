@@ -11,7 +11,7 @@ ghost use Rattle.laws.specs.Outcome.{laid, mapped, refused};
 ghost use Rattle.files.specs.Refusal.{numberOf};
 ghost use Rattle.programs.specs.Limits.{most-outputs, most-registers};
 ghost use Rattle.lanes.specs.Samples.{sampled};
-ghost use Rattle.drawing.specs.Drawing.{afterOwn, batched, batchOf, drawOf, drawSignedOf};
+ghost use Rattle.drawing.specs.Drawing.{afterOwn, batched, batchOf, drawOf, drawSignedOf, few};
 use files::Refusal;
 use lanes::LANES;
 use lanes::Sampled;
@@ -55,6 +55,7 @@ fn run_batch(
         (batched r ≡ mapped length o) ×
         (now (outputs .exit) ≡ lay (laid (λ xs. xs) o) (now (outputs .entry)))
         ) ⌝ }
+    ensures { λ r. ⌜ few r ⌝ }
 {
     let p = match read_header(program) {
         Checked::Refused(why) => return Batch::Refused(why),

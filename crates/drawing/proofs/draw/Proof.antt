@@ -4,7 +4,7 @@ use native.Mathlib.Omega.{arith}
 use Rattle.programs.specs.Limits.{most-registers, most-outputs}
 use Rattle.machine.specs.Answers.{part-long}
 use Rattle.machine.specs.Fresh.{zeroed-long}
-use Rattle.drawing.specs.OwnWords.{batch-few, drawn-refused, drawn-read}
+use Rattle.drawing.specs.OwnWords.{few-of, drawn-refused, drawn-read}
 use Rattle.drawing.proofs.draw.Statement.{statement}
 use Rattle.drawing.proofs.draw.Tie as tie
 
@@ -32,13 +32,13 @@ array-share-prefix-outputs : tie.Need-array-share-prefix-outputs
 array-share-prefix-outputs c =
     let counted = c .before in
     let batch = counted .before .before .before .before .run-batch in
-    omega (arith, batch-few _ _ _ (counted .n .given .1) (batch .ensures .0))
+    omega (arith, few-of (counted .n .given .1) (batch .ensures .1))
 
 slice-aggregate-samples : tie.Need-slice-aggregate-samples
 slice-aggregate-samples c =
     let counted = c .before .before in
     let batch = counted .before .before .before .before .run-batch in
-    part-long _ (batch .last .1 .1 .1 .1 .0) (omega (arith, batch-few _ _ _ (counted .n .given .1) (batch .ensures .0)))
+    part-long _ (batch .last .1 .1 .1 .1 .0) (omega (arith, few-of (counted .n .given .1) (batch .ensures .1)))
 
 samples-requires : tie.Need-samples-requires
 samples-requires c κs = search needs
@@ -54,7 +54,7 @@ returns-2 c =
     let read = c .before .before in
     let counted = read .before .before .before .before in
     let batch = counted .before .before .before .before .run-batch in
-    drawn-read _ _ _ _ _ _ (counted .n .given .1) (batch .ensures) (read .samples .ensures)
+    drawn-read _ _ _ _ _ _ (counted .n .given .1) (batch .ensures .0) (read .samples .ensures)
 
 pub draw-spec : {M : Type 1} → statement M
 draw-spec =
