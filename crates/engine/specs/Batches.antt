@@ -1,7 +1,7 @@
 -- Slicing 64 strings, running the compiled program and reading samples gives for each string the walk's row, or 255; signed likewise.
 -- Assumes nothing.
 use Prim.Native.Nat.{ℕ, _*_, _^_, _≤_, _<_}
-use mathlib.Core.Path.{_≡_, ap, _∙_}
+use mathlib.Core.Path.{_≡_, sym, ap, _∙_}
 use mathlib.Core.Bool.{false}
 use mathlib.Core.List.{List}
 use mathlib.Core.Logic.{⊎-elim}
@@ -26,16 +26,19 @@ use Rattle.lanes.specs.Samples.{sampleOf, code, signedCode, eachLane, samplesOf
 use Rattle.lanes.specs.Lanes.{lane-of-word, word-lt, string-bit, string-sound}
 use Rattle.compiler.specs.Translation.{program, compiled}
 use Rattle.compiler.specs.Width.{few-bits}
-use Rattle.engine.specs.Given.{Choice}
-use Rattle.engine.specs.Lanewise.{laneBits, Startable, Starts, starts, lane-draws}
+use Rattle.engine.specs.Given.{Choice, Fair, given}
+use Rattle.engine.specs.Lanewise.{Starts, starts, lane-draws}
 
 -- the words that slicing lays down
 abbrev pub slicedWords : ℕ → List ℕ → List ℕ
 slicedWords n strings = upto n (wordOf strings (width n))
 
--- what string j of 64 gives: the walk's row, or a miss
+-- the bits of string j of 64, and what it gives: the walk's row, or a miss
+abbrev pub stringBits : ℕ → List ℕ → ℕ → List ℕ
+stringBits n strings j = upto n (bitOf strings (j * width n))
+
 abbrev pub drawnAt : Matrix → List ℕ → ℕ → Answer
-drawnAt M strings j = answerOf (drawn M (upto (M .columns) (bitOf strings (j * width (M .columns)))))
+drawnAt M strings j = answerOf (drawn M (stringBits (M .columns) strings j))
 
 words-small : (n : ℕ) (strings : List ℕ) (i : ℕ) → getD (slicedWords n strings) i 0 < 2 ^ lanes
 words-small n strings i =
@@ -44,11 +47,11 @@ words-small n strings i =
     rw (List·getD-eq-default (slicedWords n strings) 0 {n = i} (omega (arith, length-upto n (wordOf strings (width n))))) (omega arith))
     (lt-or-ge i n)
 
-lane-string : (n : ℕ) (strings : List ℕ) (j : ℕ) → j < lanes →
-    laneBits n (slicedWords n strings) j ≡ upto n (bitOf strings (j * width n))
-lane-string n strings j h =
-    upto-eq n (λ i. bitAt (getD (slicedWords n strings) i 0) j) (bitOf strings (j * width n))
-    (λ i l. ap (λ (x : ℕ). bitAt x j) (getD-upto n (wordOf strings (width n)) i 0 l) ∙ lane-of-word strings (width n) i j h)
+lane-string : (n : ℕ) (strings : List ℕ) (j i : ℕ) → j < lanes → i < n →
+    bitAt (getD (slicedWords n strings) i 0) j ≡ getD (stringBits n strings j) i 0
+lane-string n strings j i h l =
+    ap (λ (x : ℕ). bitAt x j) (getD-upto n (wordOf strings (width n)) i 0 l) ∙
+    (lane-of-word strings (width n) i j h ∙ sym (getD-upto n (bitOf strings (j * width n)) i 0 l))
 
 module _ (file : List ℕ) (M : Matrix) (e : matrixOf file ≡ gives M) (strings : List ℕ) where
   -- what a string gives is what walking the file on it, packed by itself, comes to
@@ -66,30 +69,33 @@ module _ (file : List ℕ) (M : Matrix) (e : matrixOf file ≡ gives M) (strings
     chosen j =
         record { lane = j; inputs = slicedWords (M .columns) strings; registers = registers; outputs = outputs; budget = budget }
 
-    startable : (j : ℕ) → j < lanes → Startable M (chosen j)
+    fair : (j : ℕ) → j < lanes → Fair (program M) (stringBits (M .columns) strings j) (chosen j)
     unfolding program
-    startable j h =
+    fair j h =
         record {
           in-word = h;
-          small = words-small (M .columns) strings;
-          for-inputs = omega (arith, length-upto (M .columns) (wordOf strings (width (M .columns))));
-          for-registers = r;
-          for-outputs = o;
+          words = words-small (M .columns) strings;
+          carries = λ i l. lane-string (M .columns) strings j i h l;
+          inputs-there = omega (arith, length-upto (M .columns) (wordOf strings (width (M .columns))));
+          registers-there = r;
+          outputs-there = o;
           enough = enough;
         }
 
+    bits-many : (j : ℕ) → length (stringBits (M .columns) strings j) ≡ M .columns
+    bits-many j = length-upto (M .columns) (bitOf strings (j * width (M .columns)))
+
     -- where the start ends, whichever lane is looked at
     ending : Starts M (chosen 0)
-    ending = starts M (read-accepted file M e) (chosen 0) (startable 0 (omega arith))
+    ending = starts M (read-accepted file M e) _ (bits-many 0) (chosen 0) (fair 0 (omega arith))
 
     abbrev left : List ℕ
     left = ending .ended .state .outputs
 
     lane-left : (j : ℕ) → j < lanes → sampleOf left j ≡ drawnAt M strings j
+    unfolding given
     lane-left j h =
-        gives-inj
-        ((rw (ending .is) at (lane-draws M (read-accepted file M e) (chosen j) (startable j h))) ∙
-        ap (λ (l : List ℕ). gives (answerOf (drawn M l))) (lane-string (M .columns) strings j h))
+        gives-inj (rw (ending .is) at (lane-draws M (read-accepted file M e) _ (bits-many j) (chosen j) (fair j h)))
 
     few : outside most-outputs (length left) ≡ false
     few =

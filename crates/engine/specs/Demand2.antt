@@ -4,7 +4,8 @@ use Prim.Native.Nat.{ℕ, _^_, _≤_, _<_}
 use mathlib.Core.Path.{_≡_, sym, ap, _∙_}
 use mathlib.Core.List.{List}
 use lib.ListN.{length, getD, take}
-use Rattle.laws.specs.Lay.{lay, take-lay}
+use Rattle.laws.specs.Words.{bitAt}
+use Rattle.laws.specs.Lay.{lay, take-lay, length-upto}
 use Rattle.laws.specs.Outcome.{gives, mapped, _>>=_, gives-inj}
 use Rattle.files.specs.Matrix.{Matrix}
 use Rattle.files.specs.Files.{matrixOf}
@@ -18,8 +19,8 @@ use Rattle.lanes.specs.Slicing.{lanes}
 use Rattle.lanes.specs.Samples.{sampleOf}
 use Rattle.compiler.specs.Translation.{program, compiled, translation}
 use Rattle.compiler.specs.Compiled.{compiled-accepted}
-use Rattle.engine.specs.Given.{Choice}
-use Rattle.engine.specs.Lanewise.{laneBits, Startable, outputs-many, starts, lane-says, lane-draws}
+use Rattle.engine.specs.Given.{laneBits, Choice, Fair, given, own-fair}
+use Rattle.engine.specs.Lanewise.{outputs-many, starts, lane-says, lane-draws}
 
 module _ (file : List ℕ) (M : Matrix) (e : matrixOf file ≡ gives M) where
   -- what compile writes is always an accepted program
@@ -31,16 +32,20 @@ module _ (file : List ℕ) (M : Matrix) (e : matrixOf file ≡ gives M) where
     abbrev chosen : ℕ → ℕ → Choice
     chosen budget j = record { lane = j; inputs = inputs; registers = registers; outputs = outputs; budget = budget }
 
-    startable : (budget j : ℕ) → program M .count ≤ budget → j < lanes → Startable M (chosen budget j)
-    startable budget j enough jl =
-        record { in-word = jl; small = small; for-inputs = i; for-registers = r; for-outputs = o; enough = enough }
+    fair : (budget j : ℕ) → program M .count ≤ budget → j < lanes → Fair (program M) (laneBits (M .columns) inputs j) (chosen budget j)
+    unfolding program
+    fair budget j enough jl = own-fair (program M) (chosen budget j) jl small i r o enough
+
+    bits-many : (j : ℕ) → length (laneBits (M .columns) inputs j) ≡ M .columns
+    bits-many j = length-upto (M .columns) (λ i. bitAt (getD inputs i 0) j)
 
     -- started on n or more words, with anything in registers and outputs before and any budget not below the count: lane j of the outputs
     -- gives the row that the walk on lane j's bits hits, or misses where it misses
     pub demand-2 : (budget j : ℕ) → program M .count ≤ budget → j < lanes →
         mapped (λ x. sampleOf (x .state .outputs) j) (startOf (compiled M) inputs registers outputs budget) ≡
         gives (answerOf (drawn M (laneBits (M .columns) inputs j)))
-    demand-2 budget j enough jl = lane-draws M (read-accepted file M e) (chosen budget j) (startable budget j enough jl)
+    unfolding given
+    demand-2 budget j enough jl = lane-draws M (read-accepted file M e) _ (bits-many j) (chosen budget j) (fair budget j enough jl)
 
     -- the same after any stops that are resumed as left: what the caller's buffer holds in the end, where the budgets together are not
     -- below the count
@@ -50,13 +55,13 @@ module _ (file : List ℕ) (M : Matrix) (e : matrixOf file ≡ gives M) where
         gives (answerOf (drawn M (laneBits (M .columns) inputs j)))
     demand-2-stops b bs j h enough jl =
         let budget : ℕ = together b (total bs) in
-        let at : Startable M (chosen budget j) = startable budget j enough jl in
+        let f : Fair (program M) (laneBits (M .columns) inputs j) (chosen budget j) = fair budget j enough jl in
         let a = read-accepted file M e in
-        let left = starts M a (chosen budget j) at .ended .state .outputs in
-        let front : take (program M .outputs) (lay left outputs) ≡ left =
-        take-lay (program M .outputs) left outputs (starts M a (chosen budget j) at .long ∙ sym (outputs-many M)) in
-        rw (start-onward words (compiled M) inputs registers outputs b bs h, starts M a (chosen budget j) at .is, front)
-        (ap gives (lane-says M a (chosen budget j) at))
+        let end = starts M a _ (bits-many j) (chosen budget j) f in
+        let front : take (program M .outputs) (lay (end .ended .state .outputs) outputs) ≡ end .ended .state .outputs =
+        take-lay (program M .outputs) (end .ended .state .outputs) outputs (end .long ∙ sym (outputs-many M)) in
+        rw (start-onward words (compiled M) inputs registers outputs b bs h, end .is, front)
+        (ap gives (lane-says M a _ (bits-many j) (chosen budget j) f))
 
     -- and where registers and outputs that a stop left are put back at the front of other buffers: what the last call leaves
     pub demand-2-moved : (b : ℕ) (bs : List ℕ) (first last : Ended ℕ) (j : ℕ) → b < 2 ^ 32 → program M .count ≤ together b (total bs) →

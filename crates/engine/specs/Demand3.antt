@@ -6,10 +6,8 @@ use mathlib.Core.List.{List}
 use mathlib.Core.Logic.{_↔_, ⊎-elim}
 use native.Mathlib.Omega.{arith}
 use lib.ListN.{getD, replicate, length-replicate, List·getD-eq-default}
-use lib.Seq.{take-length}
 use Rattle.laws.specs.Words.{bitAt}
 use Rattle.laws.specs.Places.{lt-or-ge}
-use Rattle.laws.specs.Lay.{upto-eq, take-is}
 use Rattle.laws.specs.Outcome.{gives, gives-inj}
 use Rattle.files.specs.Matrix.{Matrix, p, total}
 use Rattle.files.specs.Files.{matrixOf}
@@ -20,7 +18,7 @@ use Rattle.walk.specs.Theorems.{hits-row, misses-rest, hit-inside, equal-rows}
 use Rattle.lanes.specs.Slicing.{lanes}
 use Rattle.compiler.specs.Translation.{program, compiled}
 use Rattle.engine.specs.Given.{Choice, Fair, given, says, says-miss}
-use Rattle.engine.specs.Lanewise.{laneBits, Startable, lane-draws}
+use Rattle.engine.specs.Lanewise.{lane-draws}
 
 -- ---- answers and walks
 says-hits : (v : ℕ) (d : Drawn) → says v (gives (answerOf d)) ≡ hits v d
@@ -39,32 +37,12 @@ below-rows M s v (hit u c) e q =
     omega (arith, hit-inside M s u c e .0)
 below-rows M s v miss e q = absurd (let z : _≡_ {A = ℕ} 0 1 = cc in omega arith)
 
-startable : {M : Matrix} {s : List ℕ} {c : Choice} → Fair (program M) s c → Startable M c
-startable f =
-    record {
-      in-word = f .in-word;
-      small = f .words;
-      for-inputs = f .inputs-there;
-      for-registers = f .registers-there;
-      for-outputs = f .outputs-there;
-      enough = f .enough;
-    }
-
 -- ---- a matrix file, and lane, other lanes, earlier contents and budget chosen anew for each string of n bits
 module _ (file : List ℕ) (M : Matrix) (e : matrixOf file ≡ gives M) (choose : List ℕ → Choice)
     (fair : (s : List ℕ) → Bits (M .columns) s → Fair (program M) s (choose s)) where
-  lane-carries : (s : List ℕ) → Bits (M .columns) s → laneBits (M .columns) (choose s .inputs) (choose s .lane) ≡ s
-  unfolding program
-  lane-carries s b =
-      upto-eq (M .columns) (λ i. bitAt (getD (choose s .inputs) i 0) (choose s .lane)) (λ i. getD s i 0) (λ i l. fair s b .carries i l) ∙
-      (sym (take-is 0 (M .columns) s (omega (arith, b .long))) ∙ ap (λ (n : ℕ). lib.ListN.take n s) (sym (b .long)) ∙ take-length s)
-
   -- the program gives for each string what the walk draws: sample v on exactly the strings on which the walk hits row v
   pub demand-3-walk : (s : List ℕ) → Bits (M .columns) s → given (compiled M) (choose s) ≡ gives (answerOf (drawn M s))
-  unfolding given
-  demand-3-walk s b =
-      lane-draws M (read-accepted file M e) (choose s) (startable (fair s b)) ∙
-      ap (λ (l : List ℕ). gives (answerOf (drawn M l))) (lane-carries s b)
+  demand-3-walk s b = lane-draws M (read-accepted file M e) s (b .long) (choose s) (fair s b)
 
   -- sample v is given p_v times, for each v from 0 to m - 1
   pub demand-3-samples : (v : ℕ) → v < M .rows → count (λ s. says v (given (compiled M) (choose s))) (strings (M .columns)) ≡ p M v
