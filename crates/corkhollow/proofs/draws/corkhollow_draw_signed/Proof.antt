@@ -2,7 +2,7 @@
 use mathlib.Core.Path.{refl}
 use borrow.Author.Needs.{needs}
 use Rattle.lanes.specs.Samples.{sampled}
-use Rattle.corkhollow.specs.Calls.{lays}
+use Rattle.corkhollow.specs.Telling.{lays}
 use Rattle.corkhollow.proofs.draws.corkhollow_draw_signed.Statement.{statement}
 use Rattle.corkhollow.proofs.draws.corkhollow_draw_signed.Tie as tie
 

@@ -2,7 +2,7 @@
 use mathlib.Core.Path.{refl}
 use borrow.Author.Needs.{needs}
 use Rattle.files.specs.Files.{checked}
-use Rattle.corkhollow.specs.Calls.{reads}
+use Rattle.corkhollow.specs.Telling.{reads}
 use Rattle.corkhollow.proofs.matrices.corkhollow_read.Statement.{statement}
 use Rattle.corkhollow.proofs.matrices.corkhollow_read.Tie as tie
 

@@ -2,7 +2,7 @@
 use mathlib.Core.Path.{refl}
 use borrow.Author.Needs.{needs}
 use Rattle.walk.specs.Walk.{walked}
-use Rattle.corkhollow.specs.Calls.{walks}
+use Rattle.corkhollow.specs.Telling.{walks}
 use Rattle.corkhollow.proofs.matrices.corkhollow_walk.Statement.{statement}
 use Rattle.corkhollow.proofs.matrices.corkhollow_walk.Tie as tie
 

@@ -2,7 +2,7 @@
 use mathlib.Core.Path.{refl}
 use borrow.Author.Needs.{needs}
 use Rattle.files.specs.Files.{written}
-use Rattle.corkhollow.specs.Calls.{writes}
+use Rattle.corkhollow.specs.Telling.{writes}
 use Rattle.corkhollow.proofs.matrices.corkhollow_write.Statement.{statement}
 use Rattle.corkhollow.proofs.matrices.corkhollow_write.Tie as tie
 

@@ -2,7 +2,7 @@
 use mathlib.Core.Path.{refl}
 use borrow.Author.Needs.{needs}
 use Rattle.programs.specs.Header.{checked}
-use Rattle.corkhollow.specs.Calls.{checks}
+use Rattle.corkhollow.specs.Telling.{checks}
 use Rattle.corkhollow.proofs.runs.corkhollow_check.Statement.{statement}
 use Rattle.corkhollow.proofs.runs.corkhollow_check.Tie as tie
 

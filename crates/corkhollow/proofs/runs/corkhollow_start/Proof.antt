@@ -2,7 +2,7 @@
 use mathlib.Core.Path.{refl}
 use borrow.Author.Needs.{needs}
 use Rattle.machine.specs.Runs.{ran}
-use Rattle.corkhollow.specs.Calls.{runs}
+use Rattle.corkhollow.specs.Telling.{runs}
 use Rattle.corkhollow.proofs.runs.corkhollow_start.Statement.{statement}
 use Rattle.corkhollow.proofs.runs.corkhollow_start.Tie as tie
 

@@ -3,7 +3,7 @@ use mathlib.Core.Path.{refl}
 use borrow.Author.Needs.{needs}
 use lib.ListN.{length}
 use Rattle.lanes.specs.Slicing.{sliced}
-use Rattle.corkhollow.specs.Calls.{lays}
+use Rattle.corkhollow.specs.Telling.{lays}
 use Rattle.corkhollow.proofs.samples.corkhollow_slice.Statement.{statement}
 use Rattle.corkhollow.proofs.samples.corkhollow_slice.Tie as tie
 

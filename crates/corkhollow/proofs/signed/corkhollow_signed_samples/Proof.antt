@@ -2,7 +2,7 @@
 use mathlib.Core.Path.{refl}
 use borrow.Author.Needs.{needs}
 use Rattle.lanes.specs.Samples.{sampled}
-use Rattle.corkhollow.specs.Calls.{lays}
+use Rattle.corkhollow.specs.Telling.{lays}
 use Rattle.corkhollow.proofs.signed.corkhollow_signed_samples.Statement.{statement}
 use Rattle.corkhollow.proofs.signed.corkhollow_signed_samples.Tie as tie
 
