@@ -1,14 +1,18 @@
 // The rows of a matrix file, read without the engine's walk.
 ghost use Prim.Native.Nat.{_*_, _≤_, _<_};
-use crate::lines::least;
-use crate::lines::wide;
+use case_lines::fields::least;
+use case_lines::fields::wide;
 use libc::STDOUT_FILENO;
 
 // The byte at `at`; beyond the end it is 0.
 fn byte(file: &[u8], at: usize) -> usize
     ensures { λ r. ⌜ r < 256 ⌝ }
 {
-    if at < file.len() { wide(file[at]) } else { 0 }
+    if at < file.len() {
+        wide(file[at]) as usize
+    } else {
+        0
+    }
 }
 
 // The sum of byte j of each row of `width` bytes.
@@ -29,7 +33,7 @@ fn column_sum(file: &[u8], rows: usize, width: usize, j: usize) -> usize
 fn print_number(top: usize, bytes: &[u8]) {
     io::print_hex(STDOUT_FILENO, top as u64, 1);
     for j in 0..bytes.len() {
-        io::print_hex(STDOUT_FILENO, wide(bytes[j]) as u64, 2);
+        io::print_hex(STDOUT_FILENO, wide(bytes[j]), 2);
     }
 }
 
