@@ -1,9 +1,9 @@
 // The fields of an answer: each is printed with a space before it, but for the first, 0 or the number of a refusal.
-use crate::fields::least;
-use crate::fields::wide;
 use crate::hashes::EMPTY;
 use crate::hashes::with_bytes;
 use crate::hashes::with_words;
+use crate::parsing::least;
+use crate::parsing::wide;
 use files::Refusal;
 use files::Written;
 use libc::STDOUT_FILENO;

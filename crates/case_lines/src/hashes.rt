@@ -1,5 +1,5 @@
 // The 64-bit FNV-1a hash, in halves of 32 bits.
-use crate::fields::wide;
+use crate::parsing::wide;
 
 // What the hash of nothing is.
 pub const EMPTY: u64 = 0xcbf2_9ce4_8422_2325;

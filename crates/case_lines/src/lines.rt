@@ -1,7 +1,7 @@
 // Lines of standard input, one at a time.
 ghost use Rattle.io.specs.Counts.{Counts};
-use crate::fields::piece_end;
-use crate::fields::wide;
+use crate::parsing::piece_end;
+use crate::parsing::wide;
 use libc::STDIN_FILENO;
 use libc::STDOUT_FILENO;
 

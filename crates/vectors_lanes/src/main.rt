@@ -5,14 +5,14 @@ mod samples;
 mod words;
 
 use case_lines::answers::end_line;
-use case_lines::fields::field;
-use case_lines::fields::size;
 use case_lines::lines::LINE;
 use case_lines::lines::LINES;
 use case_lines::lines::PROGRAM;
 use case_lines::lines::next_line;
 use case_lines::lines::print_too_many;
 use case_lines::lines::text;
+use case_lines::parsing::field;
+use case_lines::parsing::size;
 
 fn run_case(line: &[u8], program: &mut [u8]) {
     match size(field(line, 0)) {

@@ -9,13 +9,13 @@ use case_lines::answers::begin;
 use case_lines::answers::print_laid_words;
 use case_lines::answers::refuse;
 use case_lines::answers::see_words;
-use case_lines::fields::field;
-use case_lines::fields::least;
-use case_lines::fields::number;
-use case_lines::fields::size;
-use case_lines::fields::take_bytes;
-use case_lines::fields::take_words;
 use case_lines::lines::BYTES;
+use case_lines::parsing::field;
+use case_lines::parsing::least;
+use case_lines::parsing::number;
+use case_lines::parsing::size;
+use case_lines::parsing::take_bytes;
+use case_lines::parsing::take_words;
 use lanes::Sliced;
 
 // Room for words that are lent.

@@ -5,9 +5,9 @@ use case_lines::answers::print_number;
 use case_lines::answers::print_size;
 use case_lines::answers::print_words;
 use case_lines::answers::refuse;
-use case_lines::fields::least;
 use case_lines::hashes::with_number;
 use case_lines::hashes::with_words;
+use case_lines::parsing::least;
 use machine::Run;
 use programs::Checked;
 

@@ -10,14 +10,14 @@ ghost use Rattle.io.specs.Counts.{Counts};
 
 mod rows;
 
-use case_lines::fields::least;
-use case_lines::fields::size;
-use case_lines::fields::take_bytes;
 use case_lines::lines::LINE;
 use case_lines::lines::LINES;
 use case_lines::lines::next_line;
 use case_lines::lines::print_too_many;
 use case_lines::lines::text;
+use case_lines::parsing::least;
+use case_lines::parsing::size;
+use case_lines::parsing::take_bytes;
 use libc::STDOUT_FILENO;
 use rows::highest;
 use rows::print_total;

@@ -1,7 +1,7 @@
 // The rows of a matrix file, read without the engine's walk.
 ghost use Prim.Native.Nat.{_*_, _≤_, _<_};
-use case_lines::fields::least;
-use case_lines::fields::wide;
+use case_lines::parsing::least;
+use case_lines::parsing::wide;
 use libc::STDOUT_FILENO;
 
 // The byte at `at`; beyond the end it is 0.

@@ -2,8 +2,8 @@
 use borrow.Author.Needs.{needs}
 use Prim.Native.Nat.{_-_, _≤_}
 use lib.ListN.{length}
-use Rattle.case_lines.proofs.fields.piece_end.Statement.{statement}
-use Rattle.case_lines.proofs.fields.piece_end.Tie as tie
+use Rattle.case_lines.proofs.parsing.piece_end.Statement.{statement}
+use Rattle.case_lines.proofs.parsing.piece_end.Tie as tie
 
 abbrev Inv-loop : tie.InvT-loop
 Inv-loop text at mark end₀ end = (at ≤ end) × (end ≤ length text)

@@ -3,8 +3,8 @@ use borrow.Author.Needs.{needs}
 use Prim.Native.Nat.{_-_, _≤_}
 use mathlib.Core.Path.{_≡_}
 use lib.ListN.{length}
-use Rattle.case_lines.proofs.fields.number.Statement.{statement}
-use Rattle.case_lines.proofs.fields.number.Tie as tie
+use Rattle.case_lines.proofs.parsing.number.Statement.{statement}
+use Rattle.case_lines.proofs.parsing.number.Tie as tie
 
 abbrev Inv-loop : tie.InvT-loop
 Inv-loop text n₀ k₀ k-end n k = (k ≤ k-end) × (k-end ≡ length text)

@@ -4,8 +4,8 @@ use Prim.Native.Nat.{_-_, _≤_}
 use native.Mathlib.Omega.{arith}
 use mathlib.Core.Path.{_≡_}
 use lib.ListN.{length, length-take}
-use Rattle.case_lines.proofs.fields.take_words.Statement.{statement}
-use Rattle.case_lines.proofs.fields.take_words.Tie as tie
+use Rattle.case_lines.proofs.parsing.take_words.Statement.{statement}
+use Rattle.case_lines.proofs.parsing.take_words.Tie as tie
 
 abbrev Inv-loop : tie.InvT-loop
 Inv-loop text words₀ k₀ k-end words k = (k ≤ k-end) × (k-end ≡ length words₀) × (length words ≡ length words₀)

@@ -4,8 +4,8 @@ use Prim.Native.Nat.{_-_, _≤_}
 use native.Mathlib.Omega.{arith}
 use mathlib.Core.Path.{_≡_}
 use lib.ListN.{length, length-take}
-use Rattle.case_lines.proofs.fields.take_shorts.Statement.{statement}
-use Rattle.case_lines.proofs.fields.take_shorts.Tie as tie
+use Rattle.case_lines.proofs.parsing.take_shorts.Statement.{statement}
+use Rattle.case_lines.proofs.parsing.take_shorts.Tie as tie
 
 abbrev Inv-loop : tie.InvT-loop
 Inv-loop text shorts₀ k₀ k-end shorts k = (k ≤ k-end) × (k-end ≡ length shorts₀) × (length shorts ≡ length shorts₀)

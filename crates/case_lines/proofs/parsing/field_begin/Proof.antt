@@ -2,8 +2,8 @@
 use borrow.Author.Needs.{needs}
 use Prim.Native.Nat.{_-_, _≤_}
 use lib.ListN.{length}
-use Rattle.case_lines.proofs.fields.field_begin.Statement.{statement}
-use Rattle.case_lines.proofs.fields.field_begin.Tie as tie
+use Rattle.case_lines.proofs.parsing.field_begin.Statement.{statement}
+use Rattle.case_lines.proofs.parsing.field_begin.Tie as tie
 
 abbrev Inv-loop : tie.InvT-loop
 Inv-loop line k at₀ passed₀ at passed = at ≤ length line

@@ -4,8 +4,8 @@ use Prim.Native.Nat.{_-_, _≤_}
 use native.Mathlib.Omega.{arith}
 use mathlib.Core.Path.{_≡_}
 use lib.ListN.{length, length-take}
-use Rattle.case_lines.proofs.fields.take_bytes.Statement.{statement}
-use Rattle.case_lines.proofs.fields.take_bytes.Tie as tie
+use Rattle.case_lines.proofs.parsing.take_bytes.Statement.{statement}
+use Rattle.case_lines.proofs.parsing.take_bytes.Tie as tie
 
 abbrev Inv-loop : tie.InvT-loop
 Inv-loop text bytes₀ k₀ k-end bytes k = (k ≤ k-end) × (k-end ≡ length bytes₀) × (length bytes ≡ length bytes₀)
