@@ -77,13 +77,13 @@ fn usage(signed: usize) -> Usage {
 
 // WEIGHTS columns signed file-lent
 pub(crate) fn build_case(line: &[u8]) {
-    let mut weights = [0u32; 256];
-    let n = take_shorts(field(line, 1), &mut weights);
+    let mut numbers = [0u32; 256];
+    let n = take_shorts(field(line, 1), &mut numbers);
     let columns = size(field(line, 2));
     let signed = usage(size(field(line, 3)));
     let mut file = [FILL; BYTES];
     let lent = least(size(field(line, 4)), BYTES);
-    let answer = files::build(&weights[..n], columns, signed, &mut file[0..lent]);
+    let answer = files::build(&numbers[..n], columns, signed, &mut file[0..lent]);
     print_matrix(answer, &file);
 }
 
