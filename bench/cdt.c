@@ -1,6 +1,7 @@
 /*
- * (c) The constant-time scan of the cumulative table, one sample after another. The sample is the number of sums not above u; ROWS is a miss. Every
- * sum is compared, by the borrow of u - sum: gcc makes of it a compare of the low halves and a subtraction with borrow of the high ones, no branch.
+ * (c) The constant-time scan of the cumulative table, one sample after another. The sample is the number of sums not above u; ROWS is a
+ * miss. Every sum is compared, by the borrow of u - sum: gcc makes of it a compare of the low halves and a subtraction with borrow of the
+ * high ones, no branch.
  */
 #include "bench.h"
 #include "cumulative.h"

@@ -1,6 +1,6 @@
 /*
- * (c) The scan of cdt.c with the borrow spelt out: that of the high halves, or where they are equal that of the low ones. gcc -O3 takes this form,
- * and not the other, for several sums at once in a vector register; for one sum at a time it is the slower.
+ * (c) The scan of cdt.c with the borrow spelt out: that of the high halves, or where they are equal that of the low ones. gcc -O3 takes
+ * this form, and not the other, for several sums at once in a vector register; for one sum at a time it is the slower.
  */
 #include "bench.h"
 #include "cumulative.h"

@@ -1,4 +1,4 @@
-/* Compiles a matrix file to a program file with the engine, so that the same program can be written out as C before the benchmark is built. */
+/* Compiles a matrix file to a program file with the engine, so that the program can be written out as C before the benchmark is built. */
 #include "corkhollow.h"
 
 #include <stdio.h>

@@ -13,8 +13,8 @@ static uint8_t compiled[CORKHOLLOW_MOST_PROGRAM_BYTES];
 static void start_with(const struct batch *b, uint32_t budget) {
     uint32_t position, count;
     bool finished;
-    refused |= corkhollow_start(program, program_length, b->words, COLUMNS, registers, CORKHOLLOW_REGISTERS, outputs, CORKHOLLOW_OUTPUTS, budget,
-                                &position, &count, &finished);
+    refused |= corkhollow_start(program, program_length, b->words, COLUMNS, registers, CORKHOLLOW_REGISTERS, outputs, CORKHOLLOW_OUTPUTS,
+                                budget, &position, &count, &finished);
 }
 
 static void start(const struct batch *b) { start_with(b, UINT32_MAX); }

@@ -23,7 +23,8 @@ static bool program_compiled(const char *name) {
     size_t written_length = load(name, written, sizeof written);
     if (corkhollow_compile(matrix, matrix_length, program, sizeof program, &program_length)) return false;
     if (corkhollow_check(program, program_length, &n_registers, &n_inputs, &n_outputs, &count)) return false;
-    printf("%u instructions in %zu bytes; %zu registers, %zu inputs, %zu outputs\n", (unsigned)count, program_length, n_registers, n_inputs, n_outputs);
+    printf("%u instructions in %zu bytes; %zu registers, %zu inputs, %zu outputs\n", (unsigned)count, program_length, n_registers,
+           n_inputs, n_outputs);
     return count == INSTRUCTIONS && n_inputs == COLUMNS && n_outputs == CORKHOLLOW_OUTPUTS && written_length == program_length &&
            !memcmp(written, program, program_length);
 }

@@ -3,7 +3,8 @@
 
 #include <stdio.h>
 
-/* The run of a start: what it takes beyond a start that may carry out nothing. The high passes of the two are not the same ones: no difference. */
+/* The run of a start: what it takes beyond a start that may carry out nothing. The high passes of the two are not the same ones: no
+ * difference. */
 static struct measure run_alone(struct measure all, struct measure none) {
     bool counted = all.steps >= 0 && none.steps >= 0;
     return (struct measure){.least = all.least - none.least, .median = all.median - none.median, .high = 0,
@@ -36,8 +37,8 @@ static void print_row(struct contender c, struct measure m, double start) {
 }
 
 static void print_heading(void) {
-    printf("\n| %-37s | %9s | %9s | %9s | %11s | %12s | %20s | %11s |\n", "a batch of 64 samples", "ns, least", "median", "90 in 100", "ns a sample",
-           "ns an instr.", "machine instructions", "times start");
+    printf("\n| %-37s | %9s | %9s | %9s | %11s | %12s | %20s | %11s |\n", "a batch of 64 samples", "ns, least", "median", "90 in 100",
+           "ns a sample", "ns an instr.", "machine instructions", "times start");
     printf("|---------------------------------------|----------:|----------:|----------:|------------:|-------------:|"
            "---------------------:|------------:|\n");
 }

@@ -1,6 +1,6 @@
 #!/usr/bin/env python3
-"""Writes the benchmark's table, the one of paper 002 (sigma 6.15543, 87 rows, 128 columns), in two forms: a matrix file for the engine, and a C
-header with the cumulative sums for the scan.
+"""Writes the benchmark's table, the one of paper 002 (sigma 6.15543, 87 rows, 128 columns), in two forms: a matrix file for the engine,
+and a C header with the cumulative sums for the scan.
 
 usage: table.py MATRIX HEADER
 """
@@ -14,7 +14,8 @@ COLUMNS = 128
 
 
 def table():
-    """Row v is the largest 128-bit number not above 2^128 times the chance of distance v, zero counted once and every other distance twice."""
+    """Row v is the largest 128-bit number not above 2^128 times the chance of distance v, zero counted once and every other distance
+    twice."""
     getcontext().prec = 120
     weights = [(-Decimal(v * v) / (2 * SIGMA * SIGMA)).exp() for v in range(ROWS)]
     weights[0] /= 2

@@ -2,7 +2,7 @@
  * Corkhollow: the 64-lane Knuth-Yao noise engine.
  *
  * A table of probabilities (a matrix file) is compiled to a program of ANDs, ORs and NOTs, which runs on 64-bit words: 64 samples a run.
- * Link libengine.a, which `bash include/archive` writes to target/staticlib/. It is for x86-64 Linux (ELF, the System V calling
+ * Link libcorkhollow.a, which `bash include/archive` writes to target/staticlib/. It is for x86-64 Linux (ELF, the System V calling
  * convention), and needs nothing but `memset` from outside.
  *
  * What every function keeps to:
@@ -21,7 +21,7 @@
  *   low bits of the last byte must be 0: clear them in random bytes. README.md has the layout of the files.
  * - It keeps nothing between calls, makes no random bits and always returns.
  *
- * These are proved, with the answers, in the source (crates/engine). The declarations below are not: they are kept in step by
+ * These are proved, with the answers, in the source (crates/corkhollow). The declarations below are not: they are kept in step by
  * the tests in tests/interface.
  *
  * What no theorem speaks of, and the same tests measure on the archive:

@@ -1,7 +1,7 @@
 //! Corkhollow from Rust: what `corkhollow.h` declares, and a safe function for each of it.
 //!
 //! Take this file into a crate by `#[path = ".."] mod corkhollow;` and link the static library `engine`: `bash include/archive` writes
-//! target/staticlib/libengine.a. It uses `core` alone, so that it works without `std`, in the editions 2021 and 2024.
+//! target/staticlib/libcorkhollow.a. It uses `core` alone, so that it works without `std`, in the editions 2021 and 2024.
 //! The header says what each operation takes, gives and refuses. A refusal has changed nothing that was lent.
 //!
 //! Nothing proves these declarations: they are kept in step with the engine by the tests in tests/interface and tests/wrapper.

@@ -3,35 +3,42 @@ use Prim.Native.Nat.{ℕ, zero, suc, _+_, _*_, _-_, _/_, _%_, _^_, _≤_, _<_, m
 use mathlib.Core.Path.{_≡_, refl, ap, ap₂, _∙_, subst}
 use mathlib.Core.List.{List, [], _∷_, _++_}
 use mathlib.Core.Logic.{_≢_, ⊎-elim}
+use native.Mathlib.Nat.{add-zero}
+use native.Mathlib.Numerals.{add-one}
 use native.Mathlib.Omega.{arith}
 use lib.ListN.{length, getD}
-use Rattle.laws.specs.Places.{lt-or-ge}
+use Rattle.laws.specs.Tests.{lt-or-ge}
 use Rattle.laws.specs.Sums.{sumTo}
-use Rattle.laws.specs.Lay.{blocks}
-use Rattle.laws.specs.Each.{Each, each-blocks}
-use Rattle.files.specs.Live.{weight}
+use Rattle.laws.specs.Lists.{blocks, Each, each-blocks}
+use Rattle.files.specs.Matrix.{ones-in}
 use Rattle.programs.specs.declared.description.Instruction.{Instruction}
 use Rattle.programs.specs.declared.description.Instruction.the-variants.{Input, Not, And, Or}
 use Rattle.walk.specs.Walk.{Place, at, scan}
-use Rattle.machine.specs.Meaning.{State, exec}
-use Rattle.compiler.specs.Translation.{regB, regN, regH, regV, regX, regY, apart, split, ifSet, spell, mark, met, marks, carry, keep, liveBefore, column}
+use Rattle.machine.specs.Meaning.{bitGates, State, exec}
+use Rattle.machine.specs.Meaning.{exec-append}
+use Rattle.compiler.specs.Translation.{regB, regN, regH, regV, regX, regY, apart, split, ifSet, spell, mark, marks}
+use Rattle.compiler.specs.Translation.{carry, keep, liveBefore, column}
 use Rattle.compiler.specs.Room.{Roomy, live-le, live-next}
-use Rattle.compiler.specs.PlaceBits.{isHit, rowBit, isAt, doubled, meeting, onto, doubled-even, doubled-odd, doubled-hit, doubled-row, meeting-hit, meeting-row, meeting-at, onto-none, onto-clear, onto-set}
-use Rattle.compiler.specs.Effects.{reg, Leaves, run, run-append, still-long, run-leaves, and-first, or-first, input-first, not-first, blocks-leave}
+use Rattle.compiler.specs.Ranges.{each-if}
+use Rattle.compiler.specs.Places.{hitBit, sampleBit, answerAt, isAt, doubled, meeting, onto, doubled-even, doubled-odd}
+use Rattle.compiler.specs.Places.{doubled-answer, meeting-hit, meeting-row, meeting-at, onto-none, onto-clear, onto-set}
+use Rattle.compiler.specs.Effects.{reg, Leaves, run, still-long, run-leaves, writes-first, blocks-leave}
 
--- between columns: the registers say the place o, with h distances live
-pub record Stands (k m h : ℕ) (o : Place) (s : State ℕ) : Type 0 where
+-- H and the V say what is told of the place o
+pub record Tells (k m : ℕ) (o : Place) (s : State ℕ) : Type 0 where
   pub long : 3 + k + 3 * m ≤ length (s .registers)
-  pub atH : reg s regH ≡ isHit o
-  pub atV : (t : ℕ) → t < k → reg s (regV t) ≡ rowBit t o
-  pub atX : (i : ℕ) → i < h → reg s (regX k i) ≡ isAt i o
+  pub atH : reg regH s ≡ hitBit (answerAt o)
+  pub atV : (t : ℕ) → t < k → reg (regV t) s ≡ sampleBit t (answerAt o)
 
--- inside a column: j set rows are met, and n distances were live before them
+-- between columns: and the X its distance, h of them live
+pub record Stands (k m h : ℕ) (o : Place) (s : State ℕ) : Type 0 where
+  pub tells : Tells k m o s
+  pub atX : (i : ℕ) → i < h → reg (regX k i) s ≡ isAt i o
+
+-- inside a column: and the Y from j on, where j set rows are met and n distances were live before them
 record Scans (k m n j : ℕ) (o : Place) (s : State ℕ) : Type 0 where
-  long : 3 + k + 3 * m ≤ length (s .registers)
-  atH : reg s regH ≡ isHit o
-  atV : (t : ℕ) → t < k → reg s (regV t) ≡ rowBit t o
-  atY : (a i : ℕ) → a ≡ j + i → a < n → reg s (regY k m a) ≡ isAt i o
+  tells : Tells k m o s
+  atY : (a i : ℕ) → a ≡ j + i → a < n → reg (regY k m a) s ≡ isAt i o
 
 module _ (P : ℕ → Type 0) where
   -- a fact of the even and of the odd numbers
@@ -43,57 +50,78 @@ module _ (P : ℕ → Type 0) where
       (lt-or-ge (j % 2) 1)
 
 module _ (inputs : List ℕ) (k m : ℕ) where
-  -- ---- the distances split
-  module _ (i : ℕ) (s : State ℕ) (h : i < m) (long : 3 + k + 3 * m ≤ length (s .registers)) where
-    apart-even : reg (run inputs (apart k m i) s) (regY k m (2 * i)) ≡ min (reg s (regX k i)) (reg s regN)
-    apart-even = and-first inputs (regY k m (2 * i)) _ s (omega arith) (omega arith) (regX k i) regN
+  abbrev Long : State ℕ → Type 0
+  Long s = 3 + k + 3 * m ≤ length (s .registers)
 
-    apart-odd : reg (run inputs (apart k m i) s) (regY k m (2 * i + 1)) ≡ min (reg s (regX k i)) (reg s regB)
+  still : (is : List Instruction) (s : State ℕ) → Long s → Long (run inputs is s)
+  still is s l = still-long inputs is s (3 + k + 3 * m) l
+
+  -- instructions that leave H and the V alone
+  tells-still : {o o′ : Place} (is : List Instruction) (s : State ℕ) → ((r : ℕ) → 2 ≤ r → r < 3 + k → Each (Leaves r) is) →
+      answerAt o ≡ answerAt o′ → Tells k m o s → Tells k m o′ (run inputs is s)
+  tells-still is s n e here =
+      record {
+        long = still is s (here .long);
+        atH = run-leaves inputs regH is s (n regH (omega arith) (omega arith)) ∙ (here .atH ∙ ap hitBit e);
+        atV = λ t l. run-leaves inputs (regV t) is s (n (regV t) (omega arith) (omega arith)) ∙ (here .atV t l ∙ ap (sampleBit t) e);
+      }
+
+  -- ---- the distances split
+  module _ (i : ℕ) (s : State ℕ) (h : i < m) (long : Long s) where
+    apart-even : reg (regY k m (2 * i)) (run inputs (apart k m i) s) ≡ min (reg (regX k i) s) (reg regN s)
+    apart-even =
+        writes-first inputs (And (regY k m (2 * i)) (regX k i) regN) _ s (regY k m (2 * i)) refl (omega arith) (omega arith)
+
+    apart-odd : reg (regY k m (2 * i + 1)) (run inputs (apart k m i) s) ≡ min (reg (regX k i) s) (reg regB s)
     unfolding exec
     apart-odd =
         let one : List Instruction = And (regY k m (2 * i)) (regX k i) regN ∷ [] in
-        and-first inputs (regY k m (2 * i + 1)) [] (run inputs one s) (omega (arith, still-long inputs one s (3 + k + 3 * m) long)) tt (regX k i) regB ∙
+        writes-first inputs (And (regY k m (2 * i + 1)) (regX k i) regB) [] (run inputs one s) (regY k m (2 * i + 1)) refl
+        (omega (arith, still one s long)) tt ∙
         ap₂ min (run-leaves inputs (regX k i) one s (omega arith)) (run-leaves inputs regB one s (omega arith))
 
-  module _ (h : ℕ) (s : State ℕ) (few : h ≤ m) (long : 3 + k + 3 * m ≤ length (s .registers)) where
-    aparts-leave : (n r : ℕ) → r < regY k m 0 → reg (run inputs (blocks n (apart k m)) s) r ≡ reg s r
+  module _ (h : ℕ) (s : State ℕ) (few : h ≤ m) (long : Long s) where
+    aparts-leave : (n r : ℕ) → r < regY k m 0 → reg r (run inputs (blocks n (apart k m)) s) ≡ reg r s
     aparts-leave n r l = run-leaves inputs r (blocks n (apart k m)) s (each-blocks (Leaves r) (apart k m) n (λ i u. omega arith))
 
-    module _ (o : Place) (b : ℕ) (bit : b ≤ 1) (isB : reg s regB ≡ b) (isN : reg s regN ≡ 1 - b)
-        (isX : (i : ℕ) → i < h → reg s (regX k i) ≡ isAt i o) where
-      aparts-run : (j : ℕ) → j < 2 * h → reg (run inputs (blocks h (apart k m)) s) (regY k m j) ≡ isAt j (doubled b o)
+    module _ (o : Place) (b : ℕ) (bit : b ≤ 1) (isB : reg regB s ≡ b) (isN : reg regN s ≡ 1 - b)
+        (isX : (i : ℕ) → i < h → reg (regX k i) s ≡ isAt i o) where
+      aparts-run : (j : ℕ) → j < 2 * h → reg (regY k m j) (run inputs (blocks h (apart k m)) s) ≡ isAt j (doubled b o)
       aparts-run =
           let before : ℕ → State ℕ = λ i. run inputs (blocks i (apart k m)) s in
-          let long′ : (i : ℕ) → 3 + k + 3 * m ≤ length (before i .registers) = λ i. still-long inputs (blocks i (apart k m)) s (3 + k + 3 * m) long in
-          even-odd (λ j. reg (run inputs (blocks h (apart k m)) s) (regY k m j) ≡ isAt j (doubled b o)) h
-          (λ i l. blocks-leave inputs (apart k m) s h i (regY k m (2 * i)) l (λ j a c. omega arith) ∙
+          let long′ : (i : ℕ) → Long (before i) = λ i. still (blocks i (apart k m)) s long in
+          even-odd (λ j. reg (regY k m j) (run inputs (blocks h (apart k m)) s) ≡ isAt j (doubled b o)) h
+          (λ i l. blocks-leave inputs (regY k m (2 * i)) (apart k m) s h i l (λ j a c. omega arith) ∙
           (apart-even i (before i) (omega arith) (long′ i) ∙
-          (ap₂ min (aparts-leave i (regX k i) (omega arith) ∙ isX i l) (aparts-leave i regN (omega arith) ∙ isN) ∙ doubled-even b i o bit)))
-          (λ i l. blocks-leave inputs (apart k m) s h i (regY k m (2 * i + 1)) l (λ j a c. omega arith) ∙
+          (ap₂ min (aparts-leave i (regX k i) (omega arith) ∙ isX i l) (aparts-leave i regN (omega arith) ∙ isN) ∙
+          doubled-even b i o bit)))
+          (λ i l. blocks-leave inputs (regY k m (2 * i + 1)) (apart k m) s h i l (λ j a c. omega arith) ∙
           (apart-odd i (before i) (omega arith) (long′ i) ∙
-          (ap₂ min (aparts-leave i (regX k i) (omega arith) ∙ isX i l) (aparts-leave i regB (omega arith) ∙ isB) ∙ doubled-odd b i o bit)))
+          (ap₂ min (aparts-leave i (regX k i) (omega arith) ∙ isX i l) (aparts-leave i regB (omega arith) ∙ isB) ∙
+          doubled-odd b i o bit)))
 
   -- the bit of column c is read
   split-run : (c h : ℕ) (o : Place) (s : State ℕ) → getD inputs c 0 ≤ 1 → h ≤ m → Stands k m h o s →
       Scans k m (2 * h) 0 (doubled (getD inputs c 0) o) (run inputs (split k m c h) s)
-  unfolding exec split
+  unfolding exec
   split-run c h o s bit few here =
       let b : ℕ = getD inputs c 0 in
+      let long = here .tells .long in
       let one : List Instruction = Input regB c ∷ [] in
       let two : List Instruction = Input regB c ∷ Not regN regB ∷ [] in
       let s′ : State ℕ = run inputs two s in
-      let long′ : 3 + k + 3 * m ≤ length (s′ .registers) = still-long inputs two s (3 + k + 3 * m) (here .long) in
-      let other : (r : ℕ) → 2 ≤ r → reg s′ r ≡ reg s r = λ r l. run-leaves inputs r two s (omega arith) in
-      let isB : reg s′ regB ≡ b = input-first inputs regB (Not regN regB ∷ []) s (omega (arith, here .long)) (omega arith) c in
-      let isN : reg s′ regN ≡ 1 - b =
-      not-first inputs regN [] (run inputs one s) (omega (arith, still-long inputs one s (3 + k + 3 * m) (here .long))) tt regB ∙
-      ap (λ (x : ℕ). 1 - x) (input-first inputs regB [] s (omega (arith, here .long)) tt c) in
+      let other : (i : ℕ) → reg (regX k i) s′ ≡ reg (regX k i) s = λ i. run-leaves inputs (regX k i) two s (omega arith) in
+      let isB : reg regB s′ ≡ b = writes-first inputs (Input regB c) (Not regN regB ∷ []) s regB refl (omega arith) (omega arith) in
+      let isN : reg regN s′ ≡ 1 - b =
+      writes-first inputs (Not regN regB) [] (run inputs one s) regN refl (omega (arith, still one s long)) tt ∙
+      ap (λ (x : ℕ). 1 - x) (writes-first inputs (Input regB c) [] s regB refl (omega arith) tt) in
       record {
-        long = still-long inputs (blocks h (apart k m)) s′ (3 + k + 3 * m) long′;
-        atH = aparts-leave h s′ few long′ h regH (omega arith) ∙ (other regH (omega arith) ∙ (here .atH ∙ doubled-hit b o));
-        atV = λ t l. aparts-leave h s′ few long′ h (regV t) (omega arith) ∙ (other (regV t) (omega arith) ∙ (here .atV t l ∙ doubled-row b t o));
+        tells =
+            tells-still (split k m c h) s
+            (λ r a l. (omega arith, (omega arith, each-blocks (Leaves r) (apart k m) h (λ i u. omega arith)))) (doubled-answer b o)
+            (here .tells);
         atY = λ a i e l.
-            aparts-run h s′ few long′ o b bit isB isN (λ i u. other (regX k i) (omega arith) ∙ here .atX i u) a l ∙
+            aparts-run h s′ few (still two s long) o b bit isB isN (λ i u. other i ∙ here .atX i u) a l ∙
             ap (λ (j : ℕ). isAt j (doubled b o)) (omega arith);
       }
 
@@ -102,47 +130,51 @@ module _ (inputs : List ℕ) (k m : ℕ) where
     abbrev orV : ℕ → Instruction
     orV t = Or (regV t) (regV t) (regY k m j)
 
-    if-leaves : (b t r : ℕ) → r ≢ regV t → Each (Leaves r) (ifSet b (orV t))
-    unfolding ifSet
-    if-leaves zero t r n = tt
-    if-leaves (suc b) t r n = ((n, tt), tt)
-
     if-run : (b t : ℕ) (s : State ℕ) → b ≤ 1 → regV t < length (s .registers) →
-        reg (run inputs (ifSet b (orV t)) s) (regV t) ≡ max (reg s (regV t)) (b * reg s (regY k m j))
+        reg (regV t) (run inputs (ifSet b (orV t ∷ [])) s) ≡ max (reg (regV t) s) (b * reg (regY k m j) s)
     unfolding exec ifSet
     if-run zero t s h l = omega arith
-    if-run (suc zero) t s h l = or-first inputs (regV t) [] s l tt (regV t) (regY k m j) ∙ omega arith
+    if-run (suc zero) t s h l = writes-first inputs (orV t) [] s (regV t) refl l tt ∙ omega arith
     if-run (suc (suc b)) t s h l = absurd (omega arith)
 
     module _ (v : ℕ) where
-      rows-leave : (n : ℕ) (s : State ℕ) (r : ℕ) → ((t : ℕ) → t < n → r ≢ regV t) → reg (run inputs (blocks n (spell k m v j)) s) r ≡ reg s r
+      rows-leave : (n : ℕ) (s : State ℕ) (r : ℕ) → ((t : ℕ) → t < n → r ≢ regV t) →
+          reg r (run inputs (blocks n (spell k m v j)) s) ≡ reg r s
       rows-leave n s r f =
           run-leaves inputs r (blocks n (spell k m v j)) s
-          (each-blocks (Leaves r) (spell k m v j) n (λ t l. if-leaves (v / 2 ^ t % 2) t r (f t l)))
+          (each-blocks (Leaves r) (spell k m v j) n (λ t l. each-if (Leaves r) (v / 2 ^ t % 2) _ (λ b. ((f t l, tt), tt))))
 
-      rows-run : (s : State ℕ) → 3 + k + 3 * m ≤ length (s .registers) → (t : ℕ) → t < k →
-          reg (run inputs (blocks k (spell k m v j)) s) (regV t) ≡ max (reg s (regV t)) (v / 2 ^ t % 2 * reg s (regY k m j))
+      rows-run : (s : State ℕ) → Long s → (t : ℕ) → t < k →
+          reg (regV t) (run inputs (blocks k (spell k m v j)) s) ≡ max (reg (regV t) s) (v / 2 ^ t % 2 * reg (regY k m j) s)
       rows-run s long t l =
-          let s′ : State ℕ = run inputs (blocks t (spell k m v j)) s in
-          blocks-leave inputs (spell k m v j) s k t (regV t) l (λ u a b. if-leaves (v / 2 ^ u % 2) u (regV t) (omega arith)) ∙
-          (if-run (v / 2 ^ t % 2) t s′ (omega arith) (omega (arith, still-long inputs (blocks t (spell k m v j)) s (3 + k + 3 * m) long)) ∙
-          ap₂ (λ (x y : ℕ). max x (v / 2 ^ t % 2 * y)) (rows-leave t s (regV t) (λ u a. omega arith)) (rows-leave t s (regY k m j) (λ u a. omega arith)))
+          let before : List Instruction = blocks t (spell k m v j) in
+          blocks-leave inputs (regV t) (spell k m v j) s k t l
+          (λ u a b. each-if (Leaves (regV t)) (v / 2 ^ u % 2) _ (λ c. ((omega arith, tt), tt))) ∙
+          (if-run (v / 2 ^ t % 2) t (run inputs before s) (omega arith) (omega (arith, still before s long)) ∙
+          ap₂ (λ (x y : ℕ). max x (v / 2 ^ t % 2 * y)) (rows-leave t s (regV t) (λ u a. omega arith))
+          (rows-leave t s (regY k m j) (λ u a. omega arith)))
 
-      mark-run : (n : ℕ) (o : Place) (s : State ℕ) → j < n → Scans k m n j o s → Scans k m n (suc j) (meeting v o) (run inputs (mark k m v j) s)
-      unfolding exec mark
+      mark-run : (n : ℕ) (o : Place) (s : State ℕ) → j < n → Scans k m n j o s →
+          Scans k m n (suc j) (meeting v o) (run inputs (mark k m v j) s)
+      unfolding exec
       mark-run n o s l here =
           let one : List Instruction = Or regH regH (regY k m j) ∷ [] in
           let s′ : State ℕ = run inputs one s in
-          let long′ : 3 + k + 3 * m ≤ length (s′ .registers) = still-long inputs one s (3 + k + 3 * m) (here .long) in
-          let isY : reg s (regY k m j) ≡ isAt 0 o = here .atY j 0 (omega arith) l in
-          let other : (r : ℕ) → r ≢ 2 → reg s′ r ≡ reg s r = λ r u. run-leaves inputs r one s ((u, tt), tt) in
+          let long = here .tells .long in
+          let isY : reg (regY k m j) s ≡ isAt 0 o = here .atY j 0 (omega arith) l in
+          let other : (r : ℕ) → r ≢ 2 → reg r s′ ≡ reg r s = λ r u. run-leaves inputs r one s ((u, tt), tt) in
           record {
-            long = still-long inputs (blocks k (spell k m v j)) s′ (3 + k + 3 * m) long′;
-            atH = rows-leave k s′ regH (λ t u. omega arith) ∙
-                (or-first inputs regH [] s (omega (arith, here .long)) tt regH (regY k m j) ∙ (ap₂ max (here .atH) isY ∙ meeting-hit v o));
-            atV = λ t u. rows-run s′ long′ t u ∙
-                (ap₂ (λ (x y : ℕ). max x (v / 2 ^ t % 2 * y)) (other (regV t) (omega arith) ∙ here .atV t u) (other (regY k m j) (omega arith) ∙ isY) ∙
-                meeting-row v t o);
+            tells =
+                record {
+                  long = still (blocks k (spell k m v j)) s′ (still one s long);
+                  atH = rows-leave k s′ regH (λ t u. omega arith) ∙
+                      (writes-first inputs (Or regH regH (regY k m j)) [] s regH refl (omega arith) tt ∙
+                      (ap₂ max (here .tells .atH) isY ∙ meeting-hit v o));
+                  atV = λ t u. rows-run s′ (still one s long) t u ∙
+                      (ap₂ (λ (x y : ℕ). max x (v / 2 ^ t % 2 * y)) (other (regV t) (omega arith) ∙ here .tells .atV t u)
+                      (other (regY k m j) (omega arith) ∙ isY) ∙
+                      meeting-row v t o);
+                };
             atY = λ a i e u. rows-leave k s′ (regY k m a) (λ t w. omega arith) ∙
                 (other (regY k m a) (omega arith) ∙ (here .atY a (suc i) (omega arith) u ∙ meeting-at v i o));
           }
@@ -151,74 +183,76 @@ module _ (inputs : List ℕ) (k m : ℕ) where
   module _ (n : ℕ) where
     -- instructions that do what the rows do, w of them set, from any place on after j set rows
     abbrev Does : (ℕ → Place) → ℕ → (ℕ → List Instruction) → Type 0
-    Does rows w is = (o : Place) (j : ℕ) (s : State ℕ) → w + j ≤ n → Scans k m n j o s → Scans k m n (w + j) (onto o rows) (run inputs (is j) s)
+    Does rows w is =
+        (o : Place) (j : ℕ) (s : State ℕ) → w + j ≤ n → Scans k m n j o s → Scans k m n (w + j) (onto o rows) (run inputs (is j) s)
 
-    met-run : (b r w : ℕ) (rows : ℕ → Place) (is : ℕ → List Instruction) → b ≤ 1 → Does rows w is →
-        Does (λ d. at b r d rows) (b + w) (λ j. met b (mark k m r j) j is)
-    unfolding met
-    met-run zero r w rows is l does o j s h scans =
+    row-run : (b r w : ℕ) (rows : ℕ → Place) (is : ℕ → List Instruction) → b ≤ 1 → Does rows w is →
+        Does (λ d. at b r d rows) (b + w) (λ j. ifSet b (mark k m r j) ++ is (j + b))
+    unfolding ifSet
+    row-run zero r w rows is l does o j s h scans =
         let e : 0 + w + j ≡ w + j = omega arith in
-        rw e (subst (λ (q : Place). Scans k m n (w + j) q (run inputs (is j) s)) (onto-clear r o rows) (does o j s (omega arith) scans))
-    met-run (suc zero) r w rows is l does o j s h scans =
+        rw (e, add-zero j)
+        (subst (λ (q : Place). Scans k m n (w + j) q (run inputs (is j) s)) (onto-clear r o rows) (does o j s (omega arith) scans))
+    row-run (suc zero) r w rows is l does o j s h scans =
         let e : 1 + w + j ≡ w + suc j = omega arith in
-        rw (e, run-append inputs (mark k m r j) (is (suc j)) s)
-        (subst (λ (q : Place). Scans k m n (w + suc j) q (run inputs (is (suc j)) (run inputs (mark k m r j) s))) (onto-set 0 r o rows)
-        (does (meeting r o) (suc j) (run inputs (mark k m r j) s) (omega arith) (mark-run j r n o s (omega arith) scans)))
-    met-run (suc (suc b)) r w rows is l does o j s h scans = absurd (omega arith)
+        let s′ : State ℕ = run inputs (mark k m r j) s in
+        rw (e, add-one j, exec-append bitGates inputs (mark k m r j) (is (suc j)) s)
+        (subst (λ (q : Place). Scans k m n (w + suc j) q (run inputs (is (suc j)) s′)) (onto-set 0 r o rows)
+        (does (meeting r o) (suc j) s′ (omega arith) (mark-run j r n o s (omega arith) scans)))
+    row-run (suc (suc b)) r w rows is l does o j s h scans = absurd (omega arith)
 
-    marks-run : (ones : ℕ → ℕ) (r : ℕ) → ((v : ℕ) → v < r → ones v ≤ 1) → Does (λ d. scan ones r d) (sumTo r ones) (λ j. marks k m ones r j)
+    marks-run : (ones : ℕ → ℕ) (r : ℕ) → ((v : ℕ) → v < r → ones v ≤ 1) →
+        Does (λ d. scan ones r d) (sumTo r ones) (λ j. marks k m ones r j)
     unfolding marks scan sumTo exec
     marks-run ones zero ok = λ o j s h scans.
         let e : 0 + j ≡ j = omega arith in
         rw e (subst (λ (q : Place). Scans k m n j q s) (onto-none o) scans)
     marks-run ones (suc r) ok =
-        met-run (ones r) r (sumTo r ones) (λ d. scan ones r d) (λ i. marks k m ones r i) (ok r (omega arith))
+        row-run (ones r) r (sumTo r ones) (λ d. scan ones r d) (λ i. marks k m ones r i) (ok r (omega arith))
         (marks-run ones r (λ v l. ok v (omega arith)))
 
   -- ---- the distances that stay live
   module _ (w : ℕ) where
-    keeps-leave : (g : ℕ) (s : State ℕ) (r : ℕ) → ((i : ℕ) → i < g → r ≢ regX k i) → reg (run inputs (blocks g (carry k m w)) s) r ≡ reg s r
-    keeps-leave g s r f = run-leaves inputs r (blocks g (carry k m w)) s (each-blocks (Leaves r) (carry k m w) g (λ i l. ((f i l, tt), tt)))
+    keeps-leave : (g : ℕ) (r : ℕ) → ((i : ℕ) → i < g → r ≢ regX k i) → Each (Leaves r) (blocks g (carry k m w))
+    keeps-leave g r f = each-blocks (Leaves r) (carry k m w) g (λ i l. ((f i l, tt), tt))
 
-    keeps-run : (g : ℕ) (s : State ℕ) → g ≤ m → 3 + k + 3 * m ≤ length (s .registers) → (i : ℕ) → i < g →
-        reg (run inputs (blocks g (carry k m w)) s) (regX k i) ≡ reg s (regY k m (w + i))
+    keeps-run : (g : ℕ) (s : State ℕ) → g ≤ m → Long s → (i : ℕ) → i < g →
+        reg (regX k i) (run inputs (blocks g (carry k m w)) s) ≡ reg (regY k m (w + i)) s
     keeps-run g s few long i l =
-        let s′ : State ℕ = run inputs (blocks i (carry k m w)) s in
-        let long′ : 3 + k + 3 * m ≤ length (s′ .registers) = still-long inputs (blocks i (carry k m w)) s (3 + k + 3 * m) long in
-        blocks-leave inputs (carry k m w) s g i (regX k i) l (λ j a b. omega arith) ∙
-        (or-first inputs (regX k i) [] s′ (omega arith) tt (regY k m (w + i)) (regY k m (w + i)) ∙
-        omega (arith, keeps-leave i s (regY k m (w + i)) (λ j a. omega arith)))
+        let y : ℕ = regY k m (w + i) in
+        let before : List Instruction = blocks i (carry k m w) in
+        blocks-leave inputs (regX k i) (carry k m w) s g i l (λ j a b. omega arith) ∙
+        (writes-first inputs (Or (regX k i) y y) [] (run inputs before s) (regX k i) refl (omega (arith, still before s long)) tt ∙
+        omega (arith, run-leaves inputs y before s (keeps-leave i y (λ j a. omega arith))))
 
-    keep-run : (n g : ℕ) (o : Place) (s : State ℕ) → w + g ≤ n → g ≤ m → Scans k m n w o s → Stands k m g o (run inputs (keep k m w g) s)
-    unfolding keep
+    keep-run : (n g : ℕ) (o : Place) (s : State ℕ) → w + g ≤ n → g ≤ m → Scans k m n w o s →
+        Stands k m g o (run inputs (keep k m w g) s)
     keep-run n g o s h few here =
         record {
-          long = still-long inputs (blocks g (carry k m w)) s (3 + k + 3 * m) (here .long);
-          atH = keeps-leave g s regH (λ i l. omega arith) ∙ here .atH;
-          atV = λ t l. keeps-leave g s (regV t) (λ i u. omega arith) ∙ here .atV t l;
-          atX = λ i l. keeps-run g s few (here .long) i l ∙ here .atY (w + i) i refl (omega arith);
+          tells =
+              tells-still (blocks g (carry k m w)) s (λ r a l. keeps-leave g r (λ i u. omega arith)) refl (here .tells);
+          atX = λ i l. keeps-run g s few (here .tells .long) i l ∙ here .atY (w + i) i refl (omega arith);
         }
 
-  -- ---- a column
+  -- ---- a column, from the place before it to the place after it
   module _ (n : ℕ) (bit : ℕ → ℕ → ℕ) (roomy : Roomy m n bit) where
-    rows-scanned : (c h : ℕ) (o : Place) (s : State ℕ) → c < n → weight bit m c ≤ 2 * h → Scans k m (2 * h) 0 o s →
-        Scans k m (2 * h) (weight bit m c) (onto o (λ d. scan (λ v. bit v c) m d)) (run inputs (marks k m (λ v. bit v c) m 0) s)
-    unfolding weight
-    rows-scanned c h o s l few here =
-        let e : sumTo m (λ v. bit v c) + 0 ≡ sumTo m (λ v. bit v c) = omega arith in
-        rw e at (marks-run (2 * h) (λ v. bit v c) m (λ v u. roomy .bits v c u l) o 0 s (omega arith) here)
-
-    -- from the place before column c to the place after it
     pub column-run : (c : ℕ) (o : Place) (s : State ℕ) → c < n → getD inputs c 0 ≤ 1 → Stands k m (liveBefore bit m c) o s →
-        Stands k m (liveBefore bit m (suc c)) (onto (doubled (getD inputs c 0) o) (λ d. scan (λ v. bit v c) m d)) (run inputs (column k m bit c) s)
-    unfolding column
+        Stands k m (liveBefore bit m (suc c)) (onto (doubled (getD inputs c 0) o) (λ d. scan (λ v. bit v c) m d))
+        (run inputs (column k m bit c) s)
+    unfolding column ones-in
     column-run c o s l b here =
         let h : ℕ = liveBefore bit m c in
         let g : ℕ = liveBefore bit m (suc c) in
+        let w : ℕ = sumTo m (λ v. bit v c) in
         let before : List Instruction = split k m c h in
         let rows : List Instruction = marks k m (λ v. bit v c) m 0 in
-        rw (run-append inputs (before ++ rows) (keep k m (weight bit m c) g) s, run-append inputs before rows s)
-        (keep-run (weight bit m c) (2 * h) g (onto (doubled (getD inputs c 0) o) (λ d. scan (λ v. bit v c) m d)) (run inputs rows (run inputs before s))
-        (live-next m n bit roomy c l) (live-le bit m (suc c) (roomy .some-rows))
-        (rows-scanned c h (doubled (getD inputs c 0) o) (run inputs before s) l (roomy .room c l)
-        (split-run c h o s b (live-le bit m c (roomy .some-rows)) here)))
+        let s′ : State ℕ = run inputs before s in
+        let read : Place = doubled (getD inputs c 0) o in
+        let after : Place = onto read (λ d. scan (λ v. bit v c) m d) in
+        let few = live-le bit m c (roomy .some-rows) in
+        let next = live-next m n bit roomy c l in
+        let e : w + 0 ≡ w = omega arith in
+        let met : Scans k m (2 * h) w after (run inputs rows s′) =
+        rw e at (marks-run (2 * h) (λ v. bit v c) m (λ v u. roomy .bits v c u l) read 0 s′ (omega arith) (split-run c h o s b few here)) in
+        rw (exec-append bitGates inputs (before ++ rows) (keep k m w g) s, exec-append bitGates inputs before rows s)
+        (keep-run w (2 * h) g after (run inputs rows s′) next (live-le bit m (suc c) (roomy .some-rows)) met)

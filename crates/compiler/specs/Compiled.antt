@@ -1,30 +1,47 @@
 -- What is compiled is always an accepted program. Assumes nothing.
 use Prim.Native.Nat.{ℕ, _+_, _*_, _≤_}
-use mathlib.Core.Path.{_≡_, refl, sym}
+use mathlib.Core.Path.{_≡_, refl, sym, ap, _∙_}
 use mathlib.Core.Bool.{true}
 use mathlib.Core.List.{List, _++_}
 use native.Mathlib.Omega.{arith}
 use borrow.Author.Tests.{le-leb, ltb-false}
 use lib.Dec.{ltb}
 use lib.ListN.{length}
-use Rattle.laws.specs.Lay.{blocks}
-use Rattle.laws.specs.Outcome.{gives, passed, gives-inj}
+use Rattle.laws.specs.Lists.{blocks}
+use Rattle.laws.specs.Outcome.{gives, passed, bound, gives-inj}
 use Rattle.files.specs.Matrix.{Matrix, Accepted, bit}
 use Rattle.files.specs.Files.{matrixOf}
 use Rattle.files.specs.RoundTrip.{read-accepted}
-use Rattle.programs.specs.Limits.{most-registers, most-inputs, most-outputs, most-instructions, among, within}
-use Rattle.machine.specs.Checks.{checkOf}
-use Rattle.machine.specs.Accepting.{Sound, accepted}
-use Rattle.compiler.specs.Translation.{rowBits, begin, end, column, translation, program, compiled, compileOf}
+use Rattle.programs.specs.Limits.{most-registers, most-inputs, most-outputs, most-instructions, within}
+use Rattle.programs.specs.Reading.{among-limits}
+use Rattle.checker.specs.Checks.{Code, checkOf}
+use Rattle.checker.specs.Accepting.{Sound, accepted}
+use Rattle.compiler.specs.Translation.{rowBits, begin, column, translationOf, translation, program, compiled, compileOf}
 use Rattle.compiler.specs.Width.{few-bits}
 use Rattle.compiler.specs.Room.{accepted-roomy}
 use Rattle.compiler.specs.Ranges.{in-range, all-set}
 use Rattle.compiler.specs.Written.{written-first}
 use Rattle.compiler.specs.Size.{short}
 
-among-limits : (most x : ℕ) → 1 ≤ x → x ≤ most → among most x ≡ true
-among-limits most x a b = rw (le-leb 1 x a, le-leb x most b)
+-- what the check reads in a compiled program
+abbrev pub compiledCode : Matrix → Code
+compiledCode M = record { program = program M; instructions = translation M }
 
+-- ---- what the header says
+module _ (M : Matrix) where
+  pub inputs-are : program M .inputs ≡ M .columns
+  unfolding program
+  inputs-are = refl
+
+  pub registers-are : program M .registers ≡ 3 + rowBits (M .rows) + 3 * M .rows
+  unfolding program
+  registers-are = refl
+
+  pub outputs-are : program M .outputs ≡ 1 + rowBits (M .rows)
+  unfolding program
+  outputs-are = refl
+
+-- ---- the check passes
 module _ (M : Matrix) (a : Accepted M) where
   within-limits : within (program M) ≡ true
   unfolding program translation
@@ -36,7 +53,7 @@ module _ (M : Matrix) (a : Accepted M) where
         among-limits most-inputs (M .columns) (a .some-columns) (a .few-columns),
         among-limits most-outputs (1 + k) (omega arith) (omega arith),
       )
-      (le-leb (length (begin k ++ blocks (M .columns) (column k (M .rows) (bit M)) ++ end k)) most-instructions
+      (le-leb (length (translationOf k (M .rows) (M .columns) (bit M))) most-instructions
       (omega (arith, short k (M .rows) (M .columns) (bit M) bits (a .some-rows) (a .few-rows) (a .few-columns))))
 
   pub sound : Sound (program M) (translation M)
@@ -52,15 +69,24 @@ module _ (M : Matrix) (a : Accepted M) where
         all-set = λ o h. all-set k (begin k ++ blocks (M .columns) (column k (M .rows) (bit M))) o h;
       }
 
-  pub compiled-accepted : checkOf (compiled M) ≡ gives (record { program = program M; instructions = translation M })
+  pub compiled-accepted : checkOf (compiled M) ≡ gives (compiledCode M)
   unfolding compiled
   compiled-accepted = accepted (program M) (translation M) sound
 
--- what compiling a file lays down is accepted, always: no run refuses it
-pub compile-accepted : (file code : List ℕ) (room : ℕ) (M : Matrix) → matrixOf file ≡ gives M → compileOf file room ≡ gives code →
-    (code ≡ compiled M) × (length code ≤ room) × (checkOf code ≡ gives (record { program = program M; instructions = translation M }))
+-- what compiling a file lays down: the program of its matrix, within the buffer
+pub compile-lays : (file code : List ℕ) (room : ℕ) → compileOf file room ≡ gives code →
+    (M : Matrix) × (matrixOf file ≡ gives M) × (code ≡ compiled M) × (length code ≤ room)
 unfolding compileOf
+compile-lays file code room e =
+    let (M, m, t) = bound (matrixOf file) _ code e in
+    let (fits, is) = passed 13 (ltb room (length (compiled M))) (gives (compiled M)) code t in
+    let same : code ≡ compiled M = sym (gives-inj is) in
+    (M, m, same, rw same (ltb-false room (length (compiled M)) fits))
+
+-- it is accepted, always: no run refuses it
+pub compile-accepted : (file code : List ℕ) (room : ℕ) (M : Matrix) → matrixOf file ≡ gives M → compileOf file room ≡ gives code →
+    (code ≡ compiled M) × (length code ≤ room) × (checkOf code ≡ gives (compiledCode M))
 compile-accepted file code room M e c =
-    let t = passed 13 (ltb room (length (compiled M))) (gives (compiled M)) code (rw e at c) in
-    let same : code ≡ compiled M = sym (gives-inj (t .1)) in
-    rw same (refl, ltb-false room (length (compiled M)) (t .0), compiled-accepted M (read-accepted file M e))
+    let (N, n, same, fits) = compile-lays file code room c in
+    let is : code ≡ compiled M = same ∙ ap compiled (gives-inj (sym n ∙ e)) in
+    (is, fits, rw is (compiled-accepted M (read-accepted file M e)))

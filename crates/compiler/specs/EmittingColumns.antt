@@ -1,23 +1,23 @@
--- Code that counts and writes the columns of a program: how the rows of a column are met, and how one column follows another. Assumes nothing.
-use Prim.Native.Nat.{ℕ, zero, suc, _+_, _*_, _-_, _/_, _%_, _^_, _≤_, _<_, min}
+-- Code that counts and writes the columns of a program: how the rows of a column are met, and how one column follows another. Assumes
+-- nothing.
+use Prim.Native.Nat.{ℕ, suc, _+_, _*_, _-_, _^_, _≤_, _<_, min}
 use mathlib.Core.Path.{_≡_, refl, sym, ap, _∙_, subst}
-use mathlib.Core.List.{List, [], _++_}
-use native.Mathlib.Nat.{add-zero, sub-zero, mul-le-mul, pow-succ'}
+use mathlib.Core.List.{List, [], _++_, append-assoc, append-nil}
+use native.Mathlib.Nat.{sub-zero, mul-le-mul}
 use native.Mathlib.Numerals.{add-one}
 use native.Mathlib.Omega.{arith}
 use lib.Count as Count
 use lib.ListN.{length, length-append}
 use Rattle.laws.specs.Sums.{sumTo, sum-more}
-use Rattle.laws.specs.Lay.{blocks, blocks-more}
-use Rattle.files.specs.Fields.{bitOf}
-use Rattle.files.specs.Matrix.{most-rows, most-columns}
-use Rattle.files.specs.Live.{weight}
+use Rattle.laws.specs.Lists.{blocks, blocks-more}
+use Rattle.fields.specs.Fields.{bitOf}
+use Rattle.files.specs.Matrix.{most-rows, ones-in}
+use Rattle.fields.specs.Limits.{most-columns}
 use Rattle.programs.specs.declared.description.Instruction.{Instruction}
-use Rattle.compiler.specs.Translation.{rowBits, split, mark, met, marks, keep, column, liveBefore}
+use Rattle.compiler.specs.Translation.{rowBits, split, ifSet, mark, marks, keep, column, liveBefore}
 use Rattle.compiler.specs.Width.{row-lt}
-use Rattle.compiler.specs.Size.{ones, mark-length, split-length, keep-length, ones-low}
-use Rattle.compiler.specs.Emitting.{size, size-append, Fit, Emitted, emitted-none, emitted-after}
-use Rattle.compiler.specs.Emitting.{Ahead, ahead-all, ahead-room, ahead-more, ahead-none}
+use Rattle.compiler.specs.Size.{bit-times, column-length, marks-count}
+use Rattle.compiler.specs.Emitting.{Fit, Space, space-first, space-next, Emitted, emitted-none, emitted-after}
 
 -- bit c of row v, in packed rows of `stride` bytes each
 abbrev pub packedRows : List ℕ → ℕ → ℕ → ℕ → ℕ
@@ -29,50 +29,30 @@ pub record Shape (k m stride : ℕ) : Type 0 where
   pub few-rows : m ≤ most-rows
   pub few-bytes : stride ≤ most-columns
 
--- the mark of a row whose bit is b
-unfoldable pub ifMet : ℕ → List Instruction → List Instruction
-ifMet zero is = []
-ifMet (suc b) is = is
-
--- what is counted in a column: its set rows, and the instructions that mark them
-pub record Counted (bit : ℕ → ℕ → ℕ) (m c rows instructions : ℕ) : Type 0 where
-  pub set : rows ≡ weight bit m c
-  pub marking : instructions ≡ length (marks (rowBits m) m (λ v. bit v c) m 0)
-  pub few : rows ≤ m
-  pub fewer : instructions ≤ m * 65
-
 -- h is the live count before column c
 pub record Live (bit : ℕ → ℕ → ℕ) (m c h : ℕ) : Type 0 where
   pub is : h ≡ liveBefore bit m c
   pub few : h ≤ m
 
--- where a row begins
-pub row-fits : (v stride : ℕ) → v ≤ most-rows → stride ≤ most-columns → v * stride < 2 ^ 64
-row-fits v stride a b = omega (arith, mul-le-mul {n₁ = v} {m₁ = stride} {n₂ = most-rows} {m₂ = most-columns} a b)
-
--- ---- counting a column
--- the same of its first v rows, where row v takes one instruction and one for each set bit of v
+-- what is counted of the first v rows of a column: the set ones, and the instructions that mark them, one and one for each set bit of a
+-- row's number
 pub record Marked (bits : ℕ → ℕ) (v rows instructions : ℕ) : Type 0 where
   pub set : rows ≡ sumTo v bits
   pub marking : instructions ≡ sumTo v (λ v. bits v * (1 + Count.ones v))
   pub few : rows ≤ v
   pub fewer : instructions ≤ v * 65
 
--- the set bits of a number of k bits, one by one
-ones-are : (k v : ℕ) → v < 2 ^ k → ones k v ≡ Count.ones v
-unfolding ones sumTo Count.ones Count.onesIn
-ones-are zero v h =
-    let e : v ≡ 0 = omega arith in
-    rw e
-ones-are (suc k) v h =
-    let l : v / 2 < 2 ^ k = omega (arith, rw (pow-succ' 2 k) at h) in
-    omega (arith, ones-low k v, ones-are k (v / 2) l, Count.ones-step v)
+-- what is counted of a column, with the live counts before and after it
+pub record Passed (bit : ℕ → ℕ → ℕ) (m c h rows instructions live : ℕ) : Type 0 where
+  pub before : Live bit m c h
+  pub counted : Marked (λ v. bit v c) m rows instructions
+  pub after : Live bit m (c + 1) live
 
-bit-times : (b x : ℕ) → b < 2 → b * x ≤ x
-bit-times zero x h = omega arith
-bit-times (suc zero) x h = omega arith
-bit-times (suc (suc b)) x h = absurd (omega arith)
+-- where a row begins
+pub row-fits : (v stride : ℕ) → v ≤ most-rows → stride ≤ most-columns → v * stride < 2 ^ 64
+row-fits v stride a b = omega (arith, mul-le-mul {n₁ = v} {m₁ = stride} {n₂ = most-rows} {m₂ = most-columns} a b)
 
+-- ---- counting a column
 pub marked-none : (bits : ℕ → ℕ) → Marked bits 0 0 0
 unfolding sumTo
 marked-none bits = record { set = refl; marking = refl; few = omega arith; fewer = omega arith }
@@ -83,9 +63,9 @@ ones-few v h = Count.ones-le 64 v h
 pub mark-few : (v b : ℕ) → v < 2 ^ 64 → b < 2 → b * (1 + Count.ones v) ≤ 65
 mark-few v b h l = omega (arith, bit-times b (1 + Count.ones v) l, ones-few v h)
 
-pub marked-more : (bits : ℕ → ℕ) (v rows instructions b : ℕ) → b ≡ bits v → b < 2 → v < 2 ^ 64 → Marked bits v rows instructions →
+pub marked-more : {bits : ℕ → ℕ} {v rows instructions b : ℕ} → b ≡ bits v → b < 2 → v < 2 ^ 64 → Marked bits v rows instructions →
     Marked bits (v + 1) (rows + b) (instructions + b * (1 + Count.ones v))
-marked-more bits v rows instructions b e l h s =
+marked-more {bits} {v} {rows} {instructions} {b} e l h s =
     record {
       set = rw (sum-more v bits) (omega (arith, s .set));
       marking = rw (sum-more v (λ v. bits v * (1 + Count.ones v)), ← e) (omega (arith, s .marking));
@@ -93,155 +73,131 @@ marked-more bits v rows instructions b e l h s =
       fewer = omega (arith, s .fewer, mark-few v b h l);
     }
 
--- the marks of the rows below r are as many as the count says
-module _ (k m : ℕ) (bits : ℕ → ℕ) where
-  met-count : (b r j x : ℕ) (below : ℕ → List Instruction) → b ≤ 1 → r < 2 ^ k → ((i : ℕ) → length (below i) ≡ x) →
-      length (met b (mark k m r j) j below) ≡ b * (1 + Count.ones r) + x
-  unfolding met
-  met-count zero r j x below h l e = omega (arith, e j)
-  met-count (suc zero) r j x below h l e =
-      omega (arith, e (suc j), length-append (mark k m r j) (below (suc j)), mark-length k m r j, ones-are k r l)
-  met-count (suc (suc b)) r j x below h l e = absurd (omega arith)
-
-  marks-count : (r j : ℕ) → ((v : ℕ) → v < r → bits v ≤ 1) → ((v : ℕ) → v < r → v < 2 ^ k) →
-      length (marks k m bits r j) ≡ sumTo r (λ v. bits v * (1 + Count.ones v))
-  unfolding marks sumTo
-  marks-count zero j ok small = refl
-  marks-count (suc r) j ok small =
-      met-count (bits r) r j (sumTo r (λ v. bits v * (1 + Count.ones v))) (λ i. marks k m bits r i) (ok r (omega arith)) (small r (omega arith))
-      (λ i. marks-count r i (λ v l. ok v (omega arith)) (λ v l. small v (omega arith)))
-
-pub marked-counted : (bit : ℕ → ℕ → ℕ) (m c v rows instructions : ℕ) → ((v : ℕ) → v < m → bit v c ≤ 1) → v ≤ m → m ≤ v →
-    Marked (λ v. bit v c) v rows instructions → Counted bit m c rows instructions
-unfolding weight
-marked-counted bit m c v rows instructions ok a b s =
+pub marked-done : {bits : ℕ → ℕ} {m v rows instructions : ℕ} → v ≤ m → m ≤ v → Marked bits v rows instructions →
+    Marked bits m rows instructions
+marked-done {bits} {m} {v} {rows} {instructions} a b s =
     let e : v ≡ m = omega arith in
-    let t : Marked (λ v. bit v c) m rows instructions = subst (λ (x : ℕ). Marked (λ v. bit v c) x rows instructions) e s in
-    record {
-      set = t .set;
-      marking = t .marking ∙ sym (marks-count (rowBits m) m (λ v. bit v c) m 0 ok (λ v l. row-lt m v l));
-      few = t .few;
-      fewer = t .fewer;
-    }
+    subst (λ (x : ℕ). Marked bits x rows instructions) e s
 
 -- ---- a column
-module _ (bit : ℕ → ℕ → ℕ) (m c : ℕ) where
-  pub live-first : 1 ≤ m → Live bit m 0 1
-  unfolding liveBefore
-  live-first h = record { is = refl; few = h }
+pub live-first : (bit : ℕ → ℕ → ℕ) (m : ℕ) → 1 ≤ m → Live bit m 0 1
+unfolding liveBefore
+live-first bit m h = record { is = refl; few = h }
 
-  pub live-more : (h w h′ : ℕ) → Live bit m c h → w ≡ weight bit m c → h′ ≡ min (2 * h - w) m → Live bit m (c + 1) h′
-  unfolding liveBefore
-  live-more h w h′ s e q =
-      record {
-        is = rw (add-one c) (q ∙ rw (e, s .is));
-        few = omega arith;
-      }
+pub column-passed : {bit : ℕ → ℕ → ℕ} {m c h rows instructions live : ℕ} → Live bit m c h →
+    Marked (λ v. bit v c) m rows instructions → live ≡ min (2 * h - rows) m → Passed bit m c h rows instructions live
+unfolding liveBefore ones-in
+column-passed {c = c} before counted e =
+    record {
+      before = before;
+      counted = counted;
+      after = record { is = rw (add-one c) (e ∙ rw (counted .set, before .is)); few = omega arith };
+    }
 
-  live-after : (h′ : ℕ) → Live bit m (c + 1) h′ → h′ ≡ liveBefore bit m (suc c)
-  live-after h′ s = rw (add-one c) at (s .is)
+module _ (k : ℕ) {bit : ℕ → ℕ → ℕ} {m c h w instructions h′ : ℕ} (p : Passed bit m c h w instructions h′) where
+  column-is : column k m bit c ≡ split k m c h ++ marks k m (λ v. bit v c) m 0 ++ keep k m w h′
+  unfolding column ones-in
+  column-is = rw (p .counted .set, p .before .is, rw (add-one c) at (p .after .is))
 
-  -- a column from its pieces
-  module _ (k h w h′ : ℕ) (before : Live bit m c h) (set : w ≡ weight bit m c) (after : Live bit m (c + 1) h′) where
-    pub column-is : column k m bit c ≡ split k m c h ++ marks k m (λ v. bit v c) m 0 ++ keep k m w h′
-    unfolding column
-    column-is = rw (set, before .is, live-after h′ after)
+  -- room for its pieces, one after another
+  module _ {at : ℕ} {buf : List ℕ} (s : Space at (column k m bit c) buf) where
+    pub split-space : Space at (split k m c h) buf
+    split-space = space-first _ (marks k m (λ v. bit v c) m 0) (space-first _ (keep k m w h′) (rw column-is at s))
 
-    pub column-size : size (column k m bit c) ≡ size (split k m c h) + size (marks k m (λ v. bit v c) m 0) + size (keep k m w h′)
-    column-size =
-        omega (
-          arith,
-          ap size column-is,
-          size-append (split k m c h ++ marks k m (λ v. bit v c) m 0) (keep k m w h′),
-          size-append (split k m c h) (marks k m (λ v. bit v c) m 0),
-        )
+    module _ {to : ℕ} {b1 : List ℕ} (a : Emitted at (split k m c h) buf b1 to) where
+      pub marks-space : Space to (marks k m (λ v. bit v c) m 0) b1
+      marks-space = space-next (split k m c h) _ (space-first _ (keep k m w h′) (rw column-is at s)) a
 
-    pub column-emitted : {at p q next : ℕ} {buf b1 b2 now : List ℕ} → Emitted at (split k m c h) buf b1 p →
-        Emitted p (marks k m (λ v. bit v c) m 0) b1 b2 q → Emitted q (keep k m w h′) b2 now next → Emitted at (column k m bit c) buf now next
-    column-emitted a b d = rw column-is (emitted-after (emitted-after a b) d)
+      pub keep-space : {to′ : ℕ} {b2 : List ℕ} → Emitted to (marks k m (λ v. bit v c) m 0) b1 b2 to′ → Space to′ (keep k m w h′) b2
+      keep-space b = space-next (split k m c h ++ marks k m (λ v. bit v c) m 0) _ (rw column-is at s) (emitted-after a b)
 
--- its instructions, behind those of the columns before it
-pub count-more : (bit : ℕ → ℕ → ℕ) (m c h w h′ instructions count : ℕ) → Live bit m c h → Counted bit m c w instructions → Live bit m (c + 1) h′ →
-    count ≡ length (blocks c (column (rowBits m) m bit)) →
-    count + (2 + 2 * h + instructions + h′) ≡ length (blocks (c + 1) (column (rowBits m) m bit))
-count-more bit m c h w h′ instructions count a s b e =
+  pub column-emitted : {at to to′ next : ℕ} {buf b1 b2 now : List ℕ} → Emitted at (split k m c h) buf b1 to →
+      Emitted to (marks k m (λ v. bit v c) m 0) b1 b2 to′ → Emitted to′ (keep k m w h′) b2 now next →
+      Emitted at (column k m bit c) buf now next
+  column-emitted a b d = rw column-is (emitted-after (emitted-after a b) d)
+
+-- ---- the instructions of the first c columns, and the live count after them
+pub record Columns (bit : ℕ → ℕ → ℕ) (m n c h count : ℕ) : Type 0 where
+  pub passed : c ≤ n
+  pub live : Live bit m c h
+  pub is : count ≡ length (blocks c (column (rowBits m) m bit))
+  pub few : count ≤ c * 10000
+
+pub columns-none : (bit : ℕ → ℕ → ℕ) (m n : ℕ) → 1 ≤ m → Columns bit m n 0 1 0
+unfolding blocks
+columns-none bit m n h = record { passed = omega arith; live = live-first bit m h; is = refl; few = omega arith }
+
+pub columns-more : {bit : ℕ → ℕ → ℕ} {m n c h w instructions h′ count : ℕ} → m ≤ most-rows → ((v : ℕ) → v < m → bit v c ≤ 1) →
+    c < n → Columns bit m n c h count → Passed bit m c h w instructions h′ →
+    Columns bit m n (c + 1) h′ (count + (2 + 2 * h + instructions + h′))
+columns-more {bit} {m} {n} {c} {h} {w} {instructions} {h′} {count} few ok l s p =
     let k : ℕ = rowBits m in
-    let rows = marks k m (λ v. bit v c) m 0 in
-    rw (blocks-more c (column k m bit), column-is bit m c k h w h′ a (s .set) b)
-    (omega (
-      arith,
-      e,
-      s .marking,
-      length-append (blocks c (column k m bit)) (split k m c h ++ rows ++ keep k m w h′),
-      length-append (split k m c h ++ rows) (keep k m w h′),
-      length-append (split k m c h) rows,
-      split-length k m c h,
-      keep-length k m w h′,
-    ))
+    record {
+      passed = omega arith;
+      live = p .after;
+      is =
+          rw (blocks-more c (column k m bit))
+          (omega (
+            arith,
+            s .is,
+            s .live .is,
+            p .after .is,
+            ap (liveBefore bit m) (add-one c),
+            p .counted .marking,
+            marks-count k m (λ v. bit v c) m ok (row-lt m),
+            length-append (blocks c (column k m bit)) (column k m bit c),
+            column-length k m bit c,
+          ));
+      few = omega (arith, s .few, s .live .few, p .counted .fewer, p .after .few);
+    }
 
-pub count-done : (f : ℕ → List Instruction) (c n count : ℕ) → c ≤ n → n ≤ c → count ≡ length (blocks c f) → count ≡ length (blocks n f)
-count-done f c n count a b e =
-    let q : c ≡ n = omega arith in
-    subst (λ (x : ℕ). count ≡ length (blocks x f)) q e
+pub columns-done : {bit : ℕ → ℕ → ℕ} {m n c h count : ℕ} → n ≤ c → Columns bit m n c h count →
+    count ≡ length (blocks n (column (rowBits m) m bit))
+columns-done {bit} {m} {n} {c} {h} {count} l s =
+    let e : c ≡ n = omega (arith, s .passed) in
+    subst (λ (x : ℕ). count ≡ length (blocks x (column (rowBits m) m bit))) e (s .is)
 
--- ---- the rows of a column, from m - 1 down
-pub if-not-met : (b : ℕ) (is : List Instruction) (at : ℕ) (buf : List ℕ) → b ≡ 0 → at + size (ifMet b is) ≤ length buf →
-    Emitted at (ifMet b is) buf buf at
-unfolding ifMet
-if-not-met zero is at buf e h = emitted-none at buf (omega arith)
-if-not-met (suc b) is at buf e h = absurd (omega arith)
+-- ---- a loop over the rows of a column, from m - 1 down: all have room, i of them are passed, j of them set
+pub record Rows (k m : ℕ) (bits : ℕ → ℕ) (at : ℕ) (buf : List ℕ) (i j : ℕ) (now : List ℕ) (to : ℕ) : Type 0 where
+  pub few : i ≤ m
+  pub fewer : j ≤ i
+  pub space : Space at (marks k m bits m 0) buf
+  pub done : List Instruction
+  pub is : marks k m bits m 0 ≡ done ++ marks k m bits (m - i) j
+  pub so-far : Emitted at done buf now to
 
-if-met : (b : ℕ) (is : List Instruction) → (b ≡ 0 → ⊥) → is ≡ ifMet b is
-unfolding ifMet
-if-met zero is n = absurd (n refl)
-if-met (suc b) is n = refl
+pub rows-none : {k m : ℕ} {bits : ℕ → ℕ} {at : ℕ} {buf : List ℕ} → Space at (marks k m bits m 0) buf → Rows k m bits at buf 0 0 buf at
+rows-none {m = m} s =
+    record { few = omega arith; fewer = omega arith; space = s; done = []; is = rw (sub-zero m); so-far = emitted-none s }
 
-pub met-room : (b : ℕ) (is : List Instruction) (at room : ℕ) → (b ≡ 0 → ⊥) → at + size (ifMet b is) ≤ room → at + size is ≤ room
-met-room b is at room n h = omega (arith, ap size (if-met b is n))
-
-pub met-emitted : (b : ℕ) {is : List Instruction} {at next : ℕ} {buf now : List ℕ} → (b ≡ 0 → ⊥) → Emitted at is buf now next →
-    Emitted at (ifMet b is) buf now next
-met-emitted b {is} n a = rw (if-met b is n) at a
-
-met-is : (b : ℕ) (is : List Instruction) (j : ℕ) (below : ℕ → List Instruction) → b < 2 → met b is j below ≡ ifMet b is ++ below (j + b)
-unfolding met ifMet
-met-is zero is j below h = ap below (sym (add-zero j))
-met-is (suc zero) is j below h = ap (λ (i : ℕ). is ++ below i) (sym (add-one j))
-met-is (suc (suc b)) is j below h = absurd (omega arith)
-
-module _ (k m : ℕ) (bits : ℕ → ℕ) where
-  -- the i-th row from the top, with j set rows met before it
-  marks-next : (i j b : ℕ) → i < m → b ≡ bits (m - 1 - i) → b < 2 →
-      marks k m bits (m - i) j ≡ ifMet b (mark k m (m - 1 - i) j) ++ marks k m bits (m - (i + 1)) (j + b)
+module _ {k m : ℕ} {bits : ℕ → ℕ} {at i j to : ℕ} {buf now : List ℕ} (r : Rows k m bits at buf i j now to) where
+  pub rows-done : m ≤ i → Emitted at (marks k m bits m 0) buf now to
   unfolding marks
-  marks-next i j b h e l =
-      let q : m - i ≡ suc (m - 1 - i) = omega arith in
-      let r : m - (i + 1) ≡ m - 1 - i = omega arith in
-      rw (q, r, ← e) (met-is b (mark k m (m - 1 - i) j) j (λ i′. marks k m bits (m - 1 - i) i′) l)
+  rows-done h =
+      let z : m - i ≡ 0 = omega arith in
+      let all : marks k m bits m 0 ≡ r .done = r .is ∙ rw (z, append-nil (r .done)) in
+      rw all (r .so-far)
 
-  marks-end : (i j : ℕ) → m ≤ i → marks k m bits (m - i) j ≡ []
-  unfolding marks
-  marks-end i j h =
-      let q : m - i ≡ 0 = omega arith in
-      rw q
+  -- the next row, with j set rows met before it
+  module _ {b : ℕ} (h : i < m) (e : b ≡ bits (m - 1 - i)) (l : b < 2) where
+    row-is : marks k m bits m 0 ≡ r .done ++ (ifSet b (mark k m (m - 1 - i) j) ++ marks k m bits (m - (i + 1)) (j + b))
+    unfolding marks
+    row-is =
+        let p : m - i ≡ suc (m - 1 - i) = omega arith in
+        let q : m - (i + 1) ≡ m - 1 - i = omega arith in
+        r .is ∙ rw (p, q, e)
 
-  -- a loop over them: its beginning, its turns and its end
-  module _ (at : ℕ) (buf : List ℕ) where
-    pub rows-ahead : at + size (marks k m bits m 0) ≤ length buf → Ahead at (marks k m bits m 0) buf (marks k m bits (m - 0) 0) buf at
-    rows-ahead h = rw (sub-zero m) (ahead-all at (marks k m bits m 0) buf h)
+    pub row-space : Space to (ifSet b (mark k m (m - 1 - i) j)) now
+    row-space = space-first _ _ (space-next (r .done) _ (rw row-is at (r .space)) (r .so-far))
 
-    module _ (i j : ℕ) (now : List ℕ) (mid : ℕ) (a : Ahead at (marks k m bits m 0) buf (marks k m bits (m - i) j) now mid) where
-      pub rows-done : m ≤ i → Emitted at (marks k m bits m 0) buf now mid
-      rows-done h = ahead-none at (marks k m bits m 0) buf (marks k m bits (m - i) j) now mid a (marks-end i j h)
-
-      module _ (b : ℕ) (h : i < m) (e : b ≡ bits (m - 1 - i)) (l : b < 2) where
-        pub row-room : mid + size (ifMet b (mark k m (m - 1 - i) j)) ≤ length now
-        row-room =
-            ahead-room at (marks k m bits m 0) buf (marks k m bits (m - i) j) now mid a (ifMet b (mark k m (m - 1 - i) j))
-            (marks k m bits (m - (i + 1)) (j + b)) (marks-next i j b h e l)
-
-        pub row-more : (now′ : List ℕ) (next : ℕ) → Emitted mid (ifMet b (mark k m (m - 1 - i) j)) now now′ next →
-            Ahead at (marks k m bits m 0) buf (marks k m bits (m - (i + 1)) (j + b)) now′ next
-        row-more now′ next s =
-            ahead-more at (marks k m bits m 0) buf (marks k m bits (m - i) j) now mid a (ifMet b (mark k m (m - 1 - i) j))
-            (marks k m bits (m - (i + 1)) (j + b)) now′ next (marks-next i j b h e l) s
+    pub row-more : {now′ : List ℕ} {next : ℕ} → Emitted to (ifSet b (mark k m (m - 1 - i) j)) now now′ next →
+        Rows k m bits at buf (i + 1) (j + b) now′ next
+    row-more s =
+        record {
+          few = omega arith;
+          fewer = omega (arith, r .fewer);
+          space = r .space;
+          done = r .done ++ ifSet b (mark k m (m - 1 - i) j);
+          is = row-is ∙ sym (append-assoc (r .done) _ _);
+          so-far = emitted-after (r .so-far) s;
+        }

@@ -1,15 +1,19 @@
--- Code that compiles a matrix file: what is known of it before the first byte is written, and the ways through the checks. Assumes nothing.
-use Prim.Native.Nat.{ℕ, _+_, _-_, _*_, _≤_, _<_}
-use mathlib.Core.Path.{_≡_, sym, ap, _∙_}
+-- Code that compiles a matrix file: the program of packed rows is that of their matrix, what is known of it before the first byte is
+-- written, and the ways through the checks. Assumes nothing.
+use Prim.Native.Nat.{ℕ, zero, suc, _+_, _-_, _*_, _≤_, _<_}
+use mathlib.Core.Path.{_≡_, refl, sym, ap, _∙_}
 use mathlib.Core.Bool.{true}
 use mathlib.Core.List.{List, _++_}
 use native.Mathlib.Omega.{arith}
 use borrow.Author.Tests.{lt-ltb, le-ltb}
 use lib.ListN.{length, drop, length-append}
-use Rattle.laws.specs.Lay.{blocks, lay, layAt, lay-is, layAt-after}
+use Rattle.laws.specs.Sums.{sum-eq}
+use Rattle.laws.specs.Lists.{blocks, blocks-eq}
+use Rattle.laws.specs.Lay.{lay, lay-is, length-lay, laid-after}
 use Rattle.laws.specs.Outcome.{refused, gives, mapped, laid, mapped-gives, mapped-refused}
-use Rattle.files.specs.Fields.{width, bit-le}
-use Rattle.files.specs.Matrix.{Accepted, sizes, bit, most-rows, most-columns}
+use Rattle.fields.specs.Fields.{width, bit-le}
+use Rattle.files.specs.Matrix.{Matrix, Accepted, sizes, bit, most-rows, ones-in}
+use Rattle.fields.specs.Limits.{most-columns}
 use Rattle.files.specs.Files.{matrixOf, unpacked}
 use Rattle.files.specs.Checks.{unpacked-bit, matrix-read, checked-whole}
 use Rattle.files.specs.RoundTrip.{read-accepted}
@@ -18,77 +22,134 @@ use Rattle.programs.specs.Reading.{Within, within-means, header-long, write-hea
 use Rattle.programs.specs.Header.{header-length, headerBytes, writeHeaderOf, codeBytes, programFile}
 use Rattle.programs.specs.declared.description.Program.{Program}
 use Rattle.programs.specs.declared.description.Instruction.{Instruction}
-use Rattle.compiler.specs.Translation.{rowBits, begin, end, column, compiled, compileOf}
+use Rattle.compiler.specs.Translation.{rowBits, begin, marks, end, column, liveBefore, translationOf}
+use Rattle.compiler.specs.Translation.{translation, program, compiled, compileOf}
 use Rattle.compiler.specs.Room.{Roomy, accepted-roomy}
+use Rattle.compiler.specs.Size.{size, whole-length, whole-size, whole-bytes}
 use Rattle.compiler.specs.Compiled.{sound}
-use Rattle.compiler.specs.Emitting.{size, length-code, Fit, Emitted, emitted-after}
+use Rattle.compiler.specs.Emitting.{length-code, Fit, Emitted, emitted-after}
 use Rattle.compiler.specs.EmittingColumns.{packedRows}
-use Rattle.compiler.specs.EmittingRows.{packedMatrix, whole, described, roomy-eq, whole-size, whole-bytes, program-packed, compiled-packed}
+
+-- bit c of row v, in packed rows of n bits each
+abbrev pub rowsOf : List ℕ → ℕ → ℕ → ℕ → ℕ
+rowsOf bytes n = packedRows bytes (width n)
+
+-- the matrix of m of them
+abbrev pub packedMatrix : List ℕ → ℕ → ℕ → Matrix
+packedMatrix bytes m n = unpacked bytes (record { rows = m; columns = n })
+
+-- the header of a program whose columns are `count` instructions
+abbrev pub described : ℕ → ℕ → ℕ → ℕ → Program
+described k m n count = record { registers = 3 + k + 3 * m; inputs = n; outputs = 1 + k; count = 3 + 2 * k + count }
 
 -- packed rows of an accepted matrix
 pub record Packed (bytes : List ℕ) (m n : ℕ) : Type 0 where
   pub some-rows : 1 ≤ m
   pub few-rows : m ≤ most-rows
   pub few-columns : n ≤ most-columns
-  pub roomy : Roomy m n (packedRows bytes (width n))
-  pub accepted : Accepted (packedMatrix bytes m n)
+  pub roomy : Roomy m n (rowsOf bytes n)
+  pub accepted-matrix : Accepted (packedMatrix bytes m n)
 
--- what is measured of their program: k, the instructions of the columns, and its bytes
-pub record Measured (bytes : List ℕ) (m n k count long : ℕ) : Type 0 where
+-- what is counted of their program: k, and the instructions of the columns
+pub record Counts (bytes : List ℕ) (m n k count : ℕ) : Type 0 where
   pub bits : k ≡ rowBits m
-  pub columns : count ≡ length (blocks n (column (rowBits m) m (packedRows bytes (width n))))
+  pub columns : count ≡ length (blocks n (column (rowBits m) m (rowsOf bytes n)))
+
+-- and its bytes
+pub record Measured (bytes : List ℕ) (m n k count long : ℕ) : Type 0 where
+  pub counts : Counts bytes m n k count
   pub all : long ≡ length (compiled (packedMatrix bytes m n))
 
--- and what that says of writing it into a buffer: its registers and header are within the limits, and its parts have room
+-- what that says of writing it into a buffer: its registers and header are within the limits, and its parts have room
 pub record Planned (bytes : List ℕ) (m n k count room : ℕ) : Type 0 where
   pub limits : within (described k m n count) ≡ true
   pub header : Within (described k m n count)
   pub fit : Fit k m
-  pub parts : header-length + (size (begin k) + size (blocks n (column k m (packedRows bytes (width n)))) + size (end k)) ≤ room
+  pub parts : header-length + (size (begin k) + size (blocks n (column k m (rowsOf bytes n))) + size (end k)) ≤ room
 
--- ---- what the measures say
-module _ (bytes : List ℕ) (m n k count : ℕ) (packed : Packed bytes m n) (is-k : k ≡ rowBits m)
-    (is-count : count ≡ length (blocks n (column (rowBits m) m (packedRows bytes (width n))))) where
-  limits : within (described k m n count) ≡ true
-  limits = rw (program-packed bytes m n k count is-k is-count) at (sound (packedMatrix bytes m n) (packed .accepted) .limits)
+-- ---- the program depends on the bits within the sizes alone
+module _ (m n : ℕ) (f g : ℕ → ℕ → ℕ) (same : (v c : ℕ) → v < m → c < n → f v c ≡ g v c) where
+  ones-in-eq : (c : ℕ) → c < n → ones-in f m c ≡ ones-in g m c
+  unfolding ones-in
+  ones-in-eq c h = sum-eq m (λ v. f v c) (λ v. g v c) (λ v l. same v c l h)
 
-  pub few-instructions : 3 + 2 * k + count ≤ most-instructions
-  few-instructions = within-means (described k m n count) limits .few-instructions
+  live-eq : (c : ℕ) → c ≤ n → liveBefore f m c ≡ liveBefore g m c
+  unfolding liveBefore
+  live-eq zero h = refl
+  live-eq (suc c) h = rw (live-eq c (omega arith), ones-in-eq c h)
 
-  pub columns-short : 4 * n ≤ 10 * count
-  columns-short = whole-bytes k m n (packedRows bytes (width n)) count (rw is-k is-count) .0
+  marks-eq : (k r j c : ℕ) → r ≤ m → c < n → marks k m (λ v. f v c) r j ≡ marks k m (λ v. g v c) r j
+  unfolding marks
+  marks-eq k zero j c l h = refl
+  marks-eq k (suc r) j c l h = rw (same r c l h, marks-eq k r (j + g r c) c (omega arith) h)
 
-  compiled-length : length (compiled (packedMatrix bytes m n)) ≡ header-length + size (whole k m n (packedRows bytes (width n)))
-  unfolding programFile
-  compiled-length =
-      ap length (compiled-packed bytes m n k count is-k is-count) ∙
-      (length-append (headerBytes (described k m n count)) (codeBytes (whole k m n (packedRows bytes (width n)))) ∙
-      omega (arith, header-long (described k m n count), length-code (whole k m n (packedRows bytes (width n)))))
+  column-eq : (k c : ℕ) → c < n → column k m f c ≡ column k m g c
+  unfolding column
+  column-eq k c h = rw (live-eq c (omega arith), live-eq (suc c) h, ones-in-eq c h, marks-eq k m 0 c (omega arith) h)
 
-  pub measured : (long : ℕ) → long ≡ header-length + 6 * (2 + k) + 10 * count - 4 * n + 8 * (1 + k) → Measured bytes m n k count long
-  measured long e =
+  translation-eq : (k : ℕ) → translationOf k m n f ≡ translationOf k m n g
+  translation-eq k = rw (blocks-eq n (column k m f) (column k m g) (λ c h. column-eq k c h))
+
+  roomy-eq : ((v c : ℕ) → v < m → c < n → g v c ≤ 1) → Roomy m n f → Roomy m n g
+  roomy-eq ok r =
       record {
-        bits = is-k;
-        columns = is-count;
-        all = e ∙ (whole-bytes k m n (packedRows bytes (width n)) count (rw is-k is-count) .1 ∙ sym compiled-length);
+        some-rows = r .some-rows;
+        bits = ok;
+        room = λ c h. omega (arith, r .room c h, ones-in-eq c h, live-eq c (omega arith));
       }
 
-pub planned : (bytes : List ℕ) (m n k count long room : ℕ) → Packed bytes m n → Measured bytes m n k count long → long ≤ room →
+-- ---- the program of packed rows, by what is counted of it
+module _ {bytes : List ℕ} {m n k count : ℕ} (s : Counts bytes m n k count) where
+  abbrev code : List Instruction
+  code = translationOf k m n (rowsOf bytes n)
+
+  translation-packed : translation (packedMatrix bytes m n) ≡ code
+  unfolding translation unpacked
+  translation-packed =
+      let same = unpacked-bit bytes (record { rows = m; columns = n }) in
+      rw (s .bits) (translation-eq m n (bit (packedMatrix bytes m n)) (rowsOf bytes n) same (rowBits m))
+
+  program-packed : program (packedMatrix bytes m n) ≡ described k m n count
+  unfolding program unpacked
+  program-packed =
+      let l : length (translation (packedMatrix bytes m n)) ≡ 3 + 2 * k + count =
+      ap length translation-packed ∙ (whole-length k m n (rowsOf bytes n) ∙ rw (s .bits, s .columns)) in
+      rw (l, s .bits)
+
+  compiled-packed : compiled (packedMatrix bytes m n) ≡ programFile (described k m n count) code
+  unfolding compiled
+  compiled-packed = rw (program-packed, translation-packed)
+
+  compiled-length : length (compiled (packedMatrix bytes m n)) ≡ header-length + size code
+  unfolding programFile
+  compiled-length =
+      ap length compiled-packed ∙
+      (length-append (headerBytes (described k m n count)) (codeBytes code) ∙
+      omega (arith, header-long (described k m n count), length-code code))
+
+  code-bytes : (4 * n ≤ 10 * count) × (6 * (2 + k) + 10 * count - 4 * n + 8 * (1 + k) ≡ size code)
+  code-bytes = whole-bytes k m n (rowsOf bytes n) count (rw (s .bits) (s .columns))
+
+  -- ---- what the measures say
+  limits : Packed bytes m n → within (described k m n count) ≡ true
+  limits p = rw program-packed at (sound (packedMatrix bytes m n) (p .accepted-matrix) .limits)
+
+  pub countable : Packed bytes m n → (3 + 2 * k + count ≤ most-instructions) × (4 * n ≤ 10 * count)
+  countable p = (within-means (described k m n count) (limits p) .few-instructions, code-bytes .0)
+
+  pub measured : {long : ℕ} → long ≡ header-length + 6 * (2 + k) + 10 * count - 4 * n + 8 * (1 + k) → Measured bytes m n k count long
+  measured e = record { counts = s; all = omega (arith, e, code-bytes .0, code-bytes .1, compiled-length) }
+
+pub planned : {bytes : List ℕ} {m n k count long room : ℕ} → Packed bytes m n → Measured bytes m n k count long → long ≤ room →
     Planned bytes m n k count room
-planned bytes m n k count long room p s h =
-    let w = limits bytes m n k count p (s .bits) (s .columns) in
+planned {bytes} {m} {n} {k} {count} p s h =
+    let w = limits (s .counts) p in
     let l = within-means (described k m n count) w in
     record {
       limits = w;
       header = l;
       fit = record { registers = l .few-registers; outputs = l .few-outputs };
-      parts =
-          omega (
-            arith,
-            s .all,
-            compiled-length bytes m n k count p (s .bits) (s .columns),
-            whole-size k m n (packedRows bytes (width n)),
-          );
+      parts = omega (arith, s .all, compiled-length (s .counts), whole-size k m n (rowsOf bytes n));
     }
 
 -- ---- the program is written: its header, then its instructions
@@ -97,23 +158,22 @@ file-written : (p : Program) (is : List Instruction) (buf head now : List ℕ) (
     now ≡ lay (programFile p is) buf
 unfolding programFile
 file-written p is buf head now next w h e a =
-    let long : 0 + length (headerBytes p) ≡ header-length = omega (arith, header-long p) in
     let q : head ≡ lay (headerBytes p) buf = rw (write-header-gives p (length buf) w h) at e in
-    a .laid ∙
-    (ap (layAt header-length (codeBytes is)) (q ∙ sym (lay-is (headerBytes p) buf)) ∙
-    (ap (λ (i : ℕ). layAt i (codeBytes is) (layAt 0 (headerBytes p) buf)) (sym long) ∙
-    (layAt-after 0 (headerBytes p) (codeBytes is) buf (omega (arith, header-long p)) ∙ lay-is (headerBytes p ++ codeBytes is) buf)))
+    let long : length head ≡ length buf = ap length q ∙ length-lay (headerBytes p) buf (omega (arith, header-long p)) in
+    let fits : header-length + length (codeBytes is) ≤ length buf = omega (arith, length-code is, a .behind, a .room) in
+    laid-after 0 header-length (headerBytes p) (codeBytes is) buf head now (omega (arith, header-long p)) fits (a .laid .is)
+    (record { long = long; is = q ∙ sym (lay-is (headerBytes p) buf) }) .is ∙
+    lay-is (headerBytes p ++ codeBytes is) buf
 
 -- all of it, as measured
-pub program-written : (bytes : List ℕ) (m n k count long : ℕ) (p : Program) (buf : List ℕ) {at at′ next : ℕ} {head b1 b2 now : List ℕ} →
+pub program-written : {bytes : List ℕ} {m n k count long : ℕ} {p : Program} (buf : List ℕ) {head b1 b2 now : List ℕ} {at at′ next : ℕ} →
     Measured bytes m n k count long → Planned bytes m n k count (length buf) → p ≡ described k m n count →
     head ≡ lay (laid (λ bytes. bytes) (writeHeaderOf p (length buf))) buf →
-    Emitted header-length (begin k) head b1 at → Emitted at (blocks n (column k m (packedRows bytes (width n)))) b1 b2 at′ →
+    Emitted header-length (begin k) head b1 at → Emitted at (blocks n (column k m (rowsOf bytes n))) b1 b2 at′ →
     Emitted at′ (end k) b2 now next → now ≡ lay (compiled (packedMatrix bytes m n)) buf
-unfolding whole
-program-written bytes m n k count long p buf {next = next} {head = head} {now = now} s l q e a b c =
-    rw (compiled-packed bytes m n k count (s .bits) (s .columns))
-    (file-written (described k m n count) (whole k m n (packedRows bytes (width n))) buf head now next (l .limits) (omega (arith, l .parts))
+program-written {bytes} {m} {n} {k} {count} {long} buf {head = head} {now = now} {next = next} s l q e a b c =
+    rw (compiled-packed (s .counts))
+    (file-written (described k m n count) (translationOf k m n (rowsOf bytes n)) buf head now next (l .limits) (omega (arith, l .parts))
     (rw q at e) (emitted-after (emitted-after a b) c))
 
 -- ---- the ways through the checks
@@ -121,7 +181,7 @@ pub compile-refused : (file : List ℕ) (room n : ℕ) → refused n ≡ mapped 
 unfolding compileOf
 compile-refused file room n e = rw (mapped-refused sizes (matrixOf file) n e)
 
-module _ (file bytes : List ℕ) (m n : ℕ) (behind : bytes ≡ drop 8 file)
+module _ (file : List ℕ) {bytes : List ℕ} {m n : ℕ} (behind : bytes ≡ drop 8 file)
     (checked : gives (record { rows = m; columns = n }) ≡ mapped sizes (matrixOf file)) where
   checked-matrix : matrixOf file ≡ gives (packedMatrix bytes m n)
   checked-matrix =
@@ -138,12 +198,12 @@ module _ (file bytes : List ℕ) (m n : ℕ) (behind : bytes ≡ drop 8 file)
         few-rows = w .few-rows;
         few-columns = w .few-columns;
         roomy =
-            roomy-eq m n (bit (packedMatrix bytes m n)) (packedRows bytes (width n)) (unpacked-bit bytes (record { rows = m; columns = n }))
+            roomy-eq m n (bit (packedMatrix bytes m n)) (rowsOf bytes n) (unpacked-bit bytes (record { rows = m; columns = n }))
             (λ v c h l. bit-le 8 bytes (v * width n) c) (accepted-roomy (packedMatrix bytes m n) a);
-        accepted = a;
+        accepted-matrix = a;
       }
 
-  module _ (room k count long : ℕ) (s : Measured bytes m n k count long) where
+  module _ {k count long : ℕ} (room : ℕ) (s : Measured bytes m n k count long) where
     pub compile-short : room < long → compileOf file room ≡ refused 13
     unfolding compileOf
     compile-short h = rw (checked-matrix, lt-ltb room (length (compiled (packedMatrix bytes m n))) (omega (arith, s .all)))

@@ -1,22 +1,18 @@
--- Definitions first: what a reader compares with 01. Then the laws: of the translation, and of the code that writes it.
+-- The definitions: what a reader compares with 01, "Translation"
 pub mod Translation
+-- accepted: what is compiled passes the machine's check
 pub mod Width
 pub mod Room
 pub mod Ranges
 pub mod Written
 pub mod Size
 pub mod Compiled
-pub mod PlaceBits
-pub mod WalkPlaces
+-- meaning: one lane of what is compiled computes the walk
+pub mod Places
 pub mod Effects
 pub mod Columns
-pub mod Lane
 pub mod Computes
-pub mod Starting
-pub mod EmittingWidth
+-- code: what the functions write
 pub mod Emitting
-pub mod EmittingParts
 pub mod EmittingColumns
-pub mod EmittingSizes
-pub mod EmittingRows
 pub mod EmittingProgram

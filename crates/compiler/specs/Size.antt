@@ -1,22 +1,31 @@
--- How long the translation is: within the limit of a program, for every matrix within its own. Assumes nothing.
-use Prim.Native.Nat.{ℕ, zero, suc, _+_, _*_, _-_, _/_, _%_, _^_, _≤_}
+-- How long the translation is: within the limit of a program, for every matrix within its own; and its bytes. Assumes nothing.
+use Prim.Native.Nat.{ℕ, zero, suc, _+_, _*_, _-_, _/_, _%_, _^_, _≤_, _<_, min}
 use mathlib.Core.Path.{_≡_, refl, sym, ap, _∙_}
-use mathlib.Core.List.{List, _++_}
-use native.Mathlib.Nat.{add-zero, pow-succ'}
+use mathlib.Core.List.{List, [], _∷_, _++_}
+use mathlib.Core.Logic.{⊎-elim}
+use native.Mathlib.Nat.{eq-or-lt-of-le, le-of-suc-le-suc, pow-succ'}
 use native.Mathlib.Omega.{arith}
+use lib.Count as Count
 use lib.ListN.{length, length-append}
 use lib.Pow.{shr-shr}
 use Rattle.laws.specs.Sums.{sumTo, sum-front, sum-pairs, sum-plus, sum-times, sum-same, sum-eq, sum-mono, sum-le}
-use Rattle.laws.specs.Lay.{blocks, length-blocks}
-use Rattle.files.specs.Live.{weight}
+use Rattle.laws.specs.Lists.{blocks, length-blocks, Each, each-blocks}
+use Rattle.files.specs.Matrix.{ones-in}
+use Rattle.programs.specs.Instructions.{lengthOf}
 use Rattle.programs.specs.declared.description.Instruction.{Instruction}
-use Rattle.programs.specs.declared.description.Instruction.the-variants.{Or}
-use Rattle.compiler.specs.Translation.{regV, regY, clear, begin, apart, split, ifSet, spell, mark, met, marks, carry, keep, tell, end, liveBefore, column}
+use Rattle.compiler.specs.Translation.{clear, begin, apart, split, ifSet, spell, mark, marks, carry, keep, tell, end}
+use Rattle.compiler.specs.Translation.{liveBefore, column, translationOf}
 use Rattle.compiler.specs.Room.{live-le}
+use Rattle.compiler.specs.Ranges.{each-if, each-marks}
 
 -- the set bits among the k low bits of v
 unfoldable pub ones : ℕ → ℕ → ℕ
 ones k v = sumTo k (λ t. v / 2 ^ t % 2)
+
+-- the bytes that instructions take
+abbrev pub size : List Instruction → ℕ
+size [] = 0
+size (i ∷ is) = lengthOf i + size is
 
 -- ---- sums and lengths
 pub blocks-sum : {A : Type 0} (n : ℕ) (f : ℕ → List A) → length (blocks n f) ≡ sumTo n (λ i. length (f i))
@@ -24,90 +33,97 @@ unfolding blocks sumTo
 blocks-sum zero f = refl
 blocks-sum (suc n) f = omega (arith, length-append (blocks n f) (f n), blocks-sum n f)
 
-sum-longer : (n d : ℕ) (f : ℕ → ℕ) → sumTo n f ≤ sumTo (n + d) f
-unfolding sumTo
-sum-longer n zero f = omega (arith, ap (λ (x : ℕ). sumTo x f) (add-zero n))
-sum-longer n (suc d) f =
-    let e : n + suc d ≡ suc (n + d) = omega arith in
-    rw e (omega (arith, sum-longer n d f))
-
 sum-up-to : (n k : ℕ) (f : ℕ → ℕ) → n ≤ k → sumTo n f ≤ sumTo k f
-sum-up-to n k f h =
-    let e : n + (k - n) ≡ k = omega arith in
-    rw e at (sum-longer n (k - n) f)
+unfolding sumTo
+sum-up-to n zero f h =
+    let e : n ≡ 0 = omega arith in
+    rw e (omega arith)
+sum-up-to n (suc k) f h =
+    ⊎-elim
+    (λ (q : n ≡ suc k). rw q (omega arith))
+    (λ (q : n < suc k). omega (arith, sum-up-to n k f (le-of-suc-le-suc q)))
+    (eq-or-lt-of-le h)
 
--- ---- the parts
-if-length : (b : ℕ) (i : Instruction) → b ≤ 1 → length (ifSet b i) ≡ b
+-- ---- the instructions of each part
+if-length : (b : ℕ) (is : List Instruction) → length (ifSet b is) ≡ min b 1 * length is
 unfolding ifSet
-if-length zero i h = refl
-if-length (suc zero) i h = refl
-if-length (suc (suc b)) i h = absurd (omega arith)
+if-length zero is = omega arith
+if-length (suc b) is =
+    let e : min (suc b) 1 ≡ 1 = omega arith in
+    rw e (omega arith)
+
+pub bit-times : (b x : ℕ) → b < 2 → b * x ≤ x
+bit-times zero x h = omega arith
+bit-times (suc zero) x h = omega arith
+bit-times (suc (suc b)) x h = absurd (omega arith)
 
 module _ (k m : ℕ) where
-  pub mark-length : (v j : ℕ) → length (mark k m v j) ≡ 1 + ones k v
-  unfolding mark ones
+  mark-length : (v j : ℕ) → length (mark k m v j) ≡ 1 + ones k v
+  unfolding ones
   mark-length v j =
       omega (
         arith,
         blocks-sum k (spell k m v j),
-        sum-eq k (λ t. length (spell k m v j t)) (λ t. v / 2 ^ t % 2) (λ t l. if-length (v / 2 ^ t % 2) (Or (regV t) (regV t) (regY k m j)) (omega arith)),
+        sum-eq k (λ t. length (spell k m v j t)) (λ t. v / 2 ^ t % 2)
+            (λ t l. if-length (v / 2 ^ t % 2) _ ∙ omega arith),
       )
 
-  met-length : (b r j x : ℕ) (below : ℕ → List Instruction) → ((i : ℕ) → length (below i) ≤ x) → length (met b (mark k m r j) j below) ≤ 1 + ones k r + x
-  unfolding met
-  met-length zero r j x below h = omega (arith, h j)
-  met-length (suc b) r j x below h = omega (arith, h (suc j), length-append (mark k m r j) (below (suc j)), mark-length r j)
-
-  marks-length : (bits : ℕ → ℕ) (r j : ℕ) → length (marks k m bits r j) ≤ sumTo r (λ v. 1 + ones k v)
+  -- as many as the set rows take
+  marks-length : (bits : ℕ → ℕ) (r j : ℕ) → length (marks k m bits r j) ≡ sumTo r (λ v. min (bits v) 1 * (1 + ones k v))
   unfolding marks sumTo
-  marks-length bits zero j = omega arith
-  marks-length bits (suc r) j = met-length (bits r) r j (sumTo r (λ v. 1 + ones k v)) (λ i. marks k m bits r i) (λ i. marks-length bits r i)
+  marks-length bits zero j = refl
+  marks-length bits (suc r) j =
+      omega (
+        arith,
+        length-append (ifSet (bits r) (mark k m r j)) (marks k m bits r (j + bits r)),
+        if-length (bits r) (mark k m r j),
+        ap (λ (x : ℕ). min (bits r) 1 * x) (mark-length r j),
+        marks-length bits r (j + bits r),
+      )
 
-  pub split-length : (c h : ℕ) → length (split k m c h) ≡ 2 + 2 * h
-  unfolding split
-  split-length c h = omega (arith, length-blocks 2 (apart k m) (λ i. refl) h)
-
-  pub keep-length : (w h : ℕ) → length (keep k m w h) ≡ h
-  unfolding keep
-  keep-length w h = omega (arith, length-blocks 1 (carry k m w) (λ i. refl) h)
-
-  column-length : (bit : ℕ → ℕ → ℕ) (c : ℕ) → 1 ≤ m → length (column k m bit c) ≤ 2 + 3 * m + sumTo m (λ v. 1 + ones k v)
+  pub column-length : (bit : ℕ → ℕ → ℕ) (c : ℕ) →
+      length (column k m bit c) ≡
+      2 + 2 * liveBefore bit m c + length (marks k m (λ v. bit v c) m 0) + liveBefore bit m (suc c)
   unfolding column
-  column-length bit c h =
+  column-length bit c =
       let before = split k m c (liveBefore bit m c) in
       let rows = marks k m (λ v. bit v c) m 0 in
-      let after = keep k m (weight bit m c) (liveBefore bit m (suc c)) in
+      let after = keep k m (ones-in bit m c) (liveBefore bit m (suc c)) in
       omega (
         arith,
         length-append (before ++ rows) after,
         length-append before rows,
-        split-length c (liveBefore bit m c),
+        length-blocks 2 (apart k m) (λ i. refl) (liveBefore bit m c),
+        length-blocks 1 (carry k m (ones-in bit m c)) (λ i. refl) (liveBefore bit m (suc c)),
+      )
+
+  column-short : (bit : ℕ → ℕ → ℕ) (c : ℕ) → 1 ≤ m → length (column k m bit c) ≤ 2 + 3 * m + sumTo m (λ v. 1 + ones k v)
+  column-short bit c h =
+      omega (
+        arith,
+        column-length bit c,
         marks-length (λ v. bit v c) m 0,
-        keep-length (weight bit m c) (liveBefore bit m (suc c)),
+        sum-mono m (λ v. min (bit v c) 1 * (1 + ones k v)) (λ v. 1 + ones k v) (λ v l. bit-times (min (bit v c) 1) _ (omega arith)),
         live-le bit m c h,
         live-le bit m (suc c) h,
       )
 
-  pub ends-length : length (begin k) + length (end k) ≡ 3 + 2 * k
-  unfolding begin end
-  ends-length =
-      omega (arith, length-blocks 1 clear (λ t. refl) k, length-blocks 1 tell (λ t. refl) k)
+  ends-length : length (begin k) + length (end k) ≡ 3 + 2 * k
+  ends-length = omega (arith, length-blocks 1 clear (λ t. refl) k, length-blocks 1 tell (λ t. refl) k)
 
-  whole-length : (bit : ℕ → ℕ → ℕ) (n x : ℕ) → 1 ≤ m → 2 + 3 * m + sumTo m (λ v. 1 + ones k v) ≤ x →
-      length (begin k ++ blocks n (column k m bit) ++ end k) ≤ 3 + 2 * k + n * x
-  whole-length bit n x h l =
+  pub whole-length : (n : ℕ) (bit : ℕ → ℕ → ℕ) →
+      length (translationOf k m n bit) ≡ 3 + 2 * k + length (blocks n (column k m bit))
+  whole-length n bit =
       omega (
         arith,
         length-append (begin k ++ blocks n (column k m bit)) (end k),
         length-append (begin k) (blocks n (column k m bit)),
         ends-length,
-        blocks-sum n (column k m bit),
-        sum-le n x (λ c. length (column k m bit c)) (λ c a. omega (arith, column-length bit c h)),
       )
 
 -- ---- the set bits of all numbers of k bits
 -- one more bit, from the low end
-pub ones-low : (k v : ℕ) → ones (suc k) v ≡ v % 2 + ones k (v / 2)
+ones-low : (k v : ℕ) → ones (suc k) v ≡ v % 2 + ones k (v / 2)
 unfolding ones
 ones-low k v =
     omega (
@@ -148,6 +164,24 @@ all-ones (suc k) =
       doubled k,
     ))
 
+-- those of a number of k bits are all of its own
+ones-are : (k v : ℕ) → v < 2 ^ k → ones k v ≡ Count.ones v
+unfolding ones sumTo Count.ones Count.onesIn
+ones-are zero v h =
+    let e : v ≡ 0 = omega arith in
+    rw e
+ones-are (suc k) v h =
+    let l : v / 2 < 2 ^ k = omega (arith, rw (pow-succ' 2 k) at h) in
+    omega (arith, ones-low k v, ones-are k (v / 2) l, Count.ones-step v)
+
+-- the marks of rows whose numbers have k bits, as code counts them
+pub marks-count : (k m : ℕ) (bits : ℕ → ℕ) (r : ℕ) → ((v : ℕ) → v < r → bits v ≤ 1) → ((v : ℕ) → v < r → v < 2 ^ k) →
+    length (marks k m bits r 0) ≡ sumTo r (λ v. bits v * (1 + Count.ones v))
+marks-count k m bits r ok small =
+    marks-length k m bits r 0 ∙
+    sum-eq r (λ v. min (bits v) 1 * (1 + ones k v)) (λ v. bits v * (1 + Count.ones v))
+    (λ v l. let e : min (bits v) 1 ≡ bits v = omega (arith, ok v l) in rw (e, ones-are k v (small v l)))
+
 -- ---- the limit: 7 bits for each of 128 rows would be too many, but together they have 7 × 64 set bits
 few-ones : (k m : ℕ) → k ≤ 7 → m ≤ 128 → sumTo m (λ v. 1 + ones k v) ≤ 576
 unfolding ones
@@ -162,5 +196,89 @@ few-ones k m h l =
     )
 
 -- at most 962 instructions a column, 123,153 in all
-pub short : (k m n : ℕ) (bit : ℕ → ℕ → ℕ) → k ≤ 7 → 1 ≤ m → m ≤ 128 → n ≤ 128 → length (begin k ++ blocks n (column k m bit) ++ end k) ≤ 123153
-short k m n bit h a b c = omega (arith, whole-length k m bit n 962 a (omega (arith, few-ones k m h b)))
+pub short : (k m n : ℕ) (bit : ℕ → ℕ → ℕ) → k ≤ 7 → 1 ≤ m → m ≤ 128 → n ≤ 128 →
+    length (begin k ++ blocks n (column k m bit) ++ end k) ≤ 123153
+short k m n bit h a b c =
+    omega (
+      arith,
+      whole-length k m n bit,
+      blocks-sum n (column k m bit),
+      sum-le n 962 (λ c. length (column k m bit c)) (λ c l. omega (arith, column-short k m bit c a, few-ones k m h b)),
+    )
+
+-- ---- bytes
+pub size-append : (is js : List Instruction) → size (is ++ js) ≡ size is + size js
+size-append [] js = omega arith
+size-append (i ∷ is) js = omega (arith, size-append is js)
+
+-- n parts of w bytes
+size-blocks : (w : ℕ) (f : ℕ → List Instruction) → ((i : ℕ) → size (f i) ≡ w) → (n : ℕ) → size (blocks n f) ≡ n * w
+unfolding blocks
+size-blocks w f e zero = omega arith
+size-blocks w f e (suc n) = omega (arith, size-append (blocks n f) (f n), size-blocks w f e n, e n)
+
+begin-size : (k : ℕ) → size (begin k) ≡ 6 * (2 + k)
+begin-size k = omega (arith, size-blocks 6 clear (λ t. refl) k)
+
+end-size : (k : ℕ) → size (end k) ≡ 8 * (1 + k)
+end-size k = omega (arith, size-blocks 8 tell (λ t. refl) k)
+
+-- each instruction of a column takes ten, but for its first two, INPUT and NOT, which take eight
+abbrev Ten : Instruction → Type 0
+Ten i = lengthOf i ≡ 10
+
+tens : (is : List Instruction) → Each Ten is → size is ≡ 10 * length is
+tens [] e = refl
+tens (i ∷ is) e = omega (arith, e .0, tens is (e .1))
+
+module _ (k m : ℕ) where
+  split-size : (c h : ℕ) → size (split k m c h) + 4 ≡ 10 * length (split k m c h)
+  split-size c h = omega (arith, tens (blocks h (apart k m)) (each-blocks Ten (apart k m) h (λ i l. (refl, (refl, tt)))))
+
+  mark-tens : (v j : ℕ) → Each Ten (mark k m v j)
+  mark-tens v j = (refl, each-blocks Ten (spell k m v j) k (λ t l. each-if Ten (v / 2 ^ t % 2) _ (λ b. (refl, tt))))
+
+  keep-tens : (w h : ℕ) → Each Ten (keep k m w h)
+  keep-tens w h = each-blocks Ten (carry k m w) h (λ i l. (refl, tt))
+
+  column-size : (bit : ℕ → ℕ → ℕ) (c : ℕ) → size (column k m bit c) + 4 ≡ 10 * length (column k m bit c)
+  unfolding column
+  column-size bit c =
+      let before = split k m c (liveBefore bit m c) in
+      let rows = marks k m (λ v. bit v c) m 0 in
+      let after = keep k m (ones-in bit m c) (liveBefore bit m (suc c)) in
+      let all-rows : sumTo m (λ v. bit v c) + 0 ≤ sumTo m (λ v. bit v c) = omega arith in
+      omega (
+        arith,
+        size-append (before ++ rows) after,
+        size-append before rows,
+        length-append (before ++ rows) after,
+        length-append before rows,
+        split-size c (liveBefore bit m c),
+        tens rows (each-marks Ten k m (sumTo m (λ v. bit v c)) (λ v j l. mark-tens v j) (λ v. bit v c) m 0 all-rows),
+        tens after (keep-tens (ones-in bit m c) (liveBefore bit m (suc c))),
+      )
+
+  columns-size : (bit : ℕ → ℕ → ℕ) (n : ℕ) → size (blocks n (column k m bit)) + 4 * n ≡ 10 * length (blocks n (column k m bit))
+  unfolding blocks
+  columns-size bit zero = omega arith
+  columns-size bit (suc n) =
+      omega (
+        arith,
+        size-append (blocks n (column k m bit)) (column k m bit n),
+        length-append (blocks n (column k m bit)) (column k m bit n),
+        columns-size bit n,
+        column-size bit n,
+      )
+
+  pub whole-size : (n : ℕ) (bit : ℕ → ℕ → ℕ) →
+      size (translationOf k m n bit) ≡ size (begin k) + size (blocks n (column k m bit)) + size (end k)
+  whole-size n bit =
+      omega (arith, size-append (begin k ++ blocks n (column k m bit)) (end k), size-append (begin k) (blocks n (column k m bit)))
+
+  -- all of it, where the columns are `count` instructions
+  pub whole-bytes : (n : ℕ) (bit : ℕ → ℕ → ℕ) (count : ℕ) → count ≡ length (blocks n (column k m bit)) →
+      (4 * n ≤ 10 * count) × (6 * (2 + k) + 10 * count - 4 * n + 8 * (1 + k) ≡ size (translationOf k m n bit))
+  whole-bytes n bit count e =
+      let c : 10 * count ≡ size (blocks n (column k m bit)) + 4 * n = omega (arith, columns-size bit n) in
+      (omega arith, omega (arith, whole-size n bit, begin-size k, end-size k))

@@ -6,16 +6,16 @@ use mathlib.Core.List.{List, [], _∷_, _++_}
 use mathlib.Core.Logic.{_⊎_, inl, inr, ⊎-elim}
 use native.Mathlib.Nat.{eq-or-lt-of-le}
 use native.Mathlib.Omega.{arith}
-use Rattle.laws.specs.Lay.{blocks}
-use Rattle.laws.specs.Each.{Each, each-blocks}
-use Rattle.files.specs.Live.{weight}
+use Rattle.laws.specs.Lists.{blocks, Each, each-blocks}
+use Rattle.files.specs.Matrix.{ones-in}
 use Rattle.programs.specs.Instructions.{uses}
 use Rattle.programs.specs.declared.description.Instruction.{Instruction}
-use Rattle.programs.specs.declared.description.Instruction.the-variants.{Or}
-use Rattle.machine.specs.Accepting.{OneOf, Ready, none, ready-more, ready-less, ready-append, ready-blocks, ready-stay}
-use Rattle.compiler.specs.Translation.{regB, regN, regH, regV, regX, regY, clear, begin, apart, split, ifSet, spell, mark, met, marks, carry, keep, tell, end, liveBefore, column}
+use Rattle.laws.specs.Every.{OneOf}
+use Rattle.checker.specs.Accepting.{Ready, none, ready-more, ready-less, ready-append, ready-blocks, ready-stay}
+use Rattle.compiler.specs.Translation.{regB, regN, regH, regX, regY, clear, begin, apart, split, spell, mark, marks}
+use Rattle.compiler.specs.Translation.{carry, keep, tell, end, liveBefore, column, translationOf}
 use Rattle.compiler.specs.Room.{Roomy, live-next}
-use Rattle.compiler.specs.Ranges.{marks-each}
+use Rattle.compiler.specs.Ranges.{each-if, each-marks}
 
 -- the numbers from a up to b, and from c up to d
 abbrev Spans : ℕ → ℕ → ℕ → ℕ → ℕ → Type 0
@@ -54,11 +54,11 @@ module _ (k m : ℕ) where
   begun r (inr x) = inr (inl (inl (omega arith)))
 
   begin-ready : Ready none (begin k) (Held 1)
-  unfolding begin
   begin-ready =
       let zeros : List Instruction = blocks k clear in
+      let first : ℕ → Type 0 = Spans 2 3 (regX k 0) (regX k 1) in
       let after : ℕ → Type 0 = Spans 2 (3 + k) (regX k 0) (regX k 1) in
-      (tt, (tt, ready-less zeros _ after (Held 1) begin-held (ready-more zeros (Spans 2 3 (regX k 0) (regX k 1)) _ after begun zeros-ready)))
+      (tt, (tt, ready-less zeros _ after (Held 1) begin-held (ready-more zeros first _ after begun zeros-ready)))
 
   -- ---- a column with h distances live before it
   module _ (h : ℕ) where
@@ -79,13 +79,13 @@ module _ (k m : ℕ) where
         (inr (inl (omega arith)), (inr (inl (omega arith)), tt)),
         (λ r x. ⊎-elim
             (λ (q : OneOf (regY k m (2 * i + 1) ∷ []) r). inl q)
-            (λ (y : Open (2 * i + 1) r). inr (second-grown 0 (regX k h) (regY k m 0) (regY k m (2 * i)) (regY k m (2 * i + 1)) r (omega arith) y))
+            (λ (y : Open (2 * i + 1) r).
+            inr (second-grown 0 (regX k h) (regY k m 0) (regY k m (2 * i)) (regY k m (2 * i + 1)) r (omega arith) y))
             (second-grown 0 (regX k h) (regY k m 0) (regY k m (2 * i + 1)) (regY k m (2 * suc i)) r (omega arith) x)),
       ),
     )
 
     split-ready : (c : ℕ) → Ready (Held h) (split k m c h) (Open (2 * h))
-    unfolding split
     split-ready c =
         let pairs = ready-blocks (λ i. Open (2 * i)) (apart k m) h apart-ready in
         (tt, ((inl (inl refl), tt), ready-more (blocks h (apart k m)) (Open 0) _ (Open (2 * h)) opened pairs))
@@ -94,16 +94,11 @@ module _ (k m : ℕ) where
     abbrev Reading : Instruction → Type 0
     Reading i = Each (Open (2 * h)) (uses i .reads)
 
-    if-reads : (b t j : ℕ) → t < k → j < 2 * h → Each Reading (ifSet b (Or (regV t) (regV t) (regY k m j)))
-    unfolding ifSet
-    if-reads zero t j l u = tt
-    if-reads (suc b) t j l u = ((inl (omega arith), (inr (omega arith), tt)), tt)
-
     mark-reads : (v j : ℕ) → j < 2 * h → Each Reading (mark k m v j)
-    unfolding mark
     mark-reads v j l = (
       (inl (omega arith), (inr (omega arith), tt)),
-      each-blocks Reading (spell k m v j) k (λ t u. if-reads (v / 2 ^ t % 2) t j u l),
+      each-blocks Reading (spell k m v j) k
+          (λ t u. each-if Reading (v / 2 ^ t % 2) _ (λ b. ((inl (omega arith), (inr (omega arith), tt)), tt))),
     )
 
     -- the first i of the X, and the Y
@@ -115,7 +110,6 @@ module _ (k m : ℕ) where
     kept-none r (inr x) = inr x
 
     keep-ready : (w g : ℕ) → w + g ≤ 2 * h → Ready (Open (2 * h)) (keep k m w g) (Held g)
-    unfolding keep
     keep-ready w g l =
         let kept : List Instruction = blocks g (carry k m w) in
         ready-less kept (Open (2 * h)) (Kept g) (Held g) (λ r x. inl (omega arith))
@@ -128,28 +122,27 @@ module _ (k m : ℕ) where
 
   module _ (n : ℕ) (bit : ℕ → ℕ → ℕ) (roomy : Roomy m n bit) where
     column-ready : (c : ℕ) → c < n → Ready (Held (liveBefore bit m c)) (column k m bit c) (Held (liveBefore bit m (suc c)))
-    unfolding column weight
+    unfolding column ones-in
     column-ready c l =
         let h : ℕ = liveBefore bit m c in
         let g : ℕ = liveBefore bit m (suc c) in
         let met = marks k m (λ v. bit v c) m 0 in
         let next = live-next m n bit roomy c l in
-        ready-append (split k m c h ++ met) (keep k m (weight bit m c) g) (Held h) (Open h (2 * h)) (Held g)
+        ready-append (split k m c h ++ met) (keep k m (ones-in bit m c) g) (Held h) (Open h (2 * h)) (Held g)
         (ready-append (split k m c h) met (Held h) (Open h (2 * h)) (Open h (2 * h)) (split-ready h c)
         (ready-stay (Open h (2 * h)) met
-        (marks-each k m (Reading h) (2 * h) (λ v j u. mark-reads h v j u) (λ v. bit v c) m 0 (λ v u. roomy .bits v c u l) (omega arith))))
-        (keep-ready h (weight bit m c) g next)
+        (each-marks (Reading h) k m (2 * h) (mark-reads h) (λ v. bit v c) m 0 (omega arith))))
+        (keep-ready h (ones-in bit m c) g next)
 
     end-reads : Each (λ i. Each (Held 0) (uses i .reads)) (end k)
-    unfolding end
     end-reads = ((omega arith, tt), each-blocks (λ i. Each (Held 0) (uses i .reads)) tell k (λ t l. ((omega arith, tt), tt)))
 
     -- whatever is live at the end, H and each V are written
-    pub written-first : Ready none (begin k ++ blocks n (column k m bit) ++ end k) none
+    pub written-first : Ready none (translationOf k m n bit) none
     unfolding liveBefore
     written-first =
         let live : ℕ → ℕ = liveBefore bit m in
-        ready-less (begin k ++ blocks n (column k m bit) ++ end k) none (Held 0) none (λ r x. absurd x)
+        ready-less (translationOf k m n bit) none (Held 0) none (λ r x. absurd x)
         (ready-append (begin k ++ blocks n (column k m bit)) (end k) none (Held (live n)) (Held 0)
         (ready-append (begin k) (blocks n (column k m bit)) none (Held 1) (Held (live n)) begin-ready
         (ready-blocks (λ c. Held (live c)) (column k m bit) n column-ready))

@@ -1,24 +1,22 @@
 // The columns of a program (01, "Translation"): m packed rows, row v from byte v * stride on, are read bit by bit.
 ghost use Prim.Native.Nat.{_+_, _*_, _≤_, _<_};
-ghost use lib.ListN.{length};
-ghost use Rattle.laws.specs.Lay.{blocks};
-ghost use Rattle.files.specs.Live.{weight};
-ghost use Rattle.files.specs.Matrix.{most-columns};
-ghost use Rattle.compiler.specs.Translation.{column, mark, marks};
+ghost use Rattle.laws.specs.Lists.{blocks};
+ghost use Rattle.files.specs.Matrix.{ones-in};
+ghost use Rattle.fields.specs.Limits.{most-columns};
+ghost use Rattle.compiler.specs.Translation.{column, ifSet, mark, marks};
 ghost use Rattle.compiler.specs.Room.{Roomy};
-ghost use Rattle.compiler.specs.Emitting.{Emitted, Fit, size};
-ghost use Rattle.compiler.specs.EmittingColumns.{ifMet, Live, packedRows, Shape};
+ghost use Rattle.compiler.specs.Emitting.{Emitted, Fit, Space};
+ghost use Rattle.compiler.specs.EmittingColumns.{Live, packedRows, Shape};
 use crate::parts::keep;
 use crate::parts::mark;
 use crate::parts::split;
-use crate::sizes::count_marks;
-use crate::sizes::live_after;
-use files::bit;
+use crate::sizes::count_column;
+use fields::bit;
 
 // The mark of row v, the set row met j-th, if its bit b is set.
 fn mark_if(b: usize, k: usize, m: usize, v: usize, j: usize, out: &mut [u8], at: usize) -> usize
-    requires { ⌜ (at + size (ifMet b (mark k m v j)) ≤ length (now out)) × Fit k m × (j < m) ⌝ }
-    ensures { λ r. ⌜ Emitted at (ifMet b (mark k m v j)) (now (out .entry)) (now (out .exit)) r ⌝ }
+    requires { ⌜ Space at (ifSet b (mark k m v j)) (now out) × Fit k m × (j < m) ⌝ }
+    ensures { λ r. ⌜ Emitted at (ifSet b (mark k m v j)) (now (out .entry)) (now (out .exit)) r ⌝ }
 {
     if b == 0 {
         return at;
@@ -36,8 +34,11 @@ fn marks(
     out: &mut [u8],
     at: usize,
 ) -> usize
-    requires { ⌜ (at + size (marks k m (λ v. packedRows (now bytes) stride v c) m 0) ≤ length (now out)) × Shape k m stride ⌝ }
-    ensures { λ r. ⌜ Emitted at (marks k m (λ v. packedRows (now (bytes .entry)) stride v c) m 0) (now (out .entry)) (now (out .exit)) r ⌝ }
+    requires { ⌜ Space at (marks k m (λ v. packedRows (now bytes) stride v c) m 0) (now out) × Shape k m stride ⌝ }
+    ensures { λ r. ⌜ (
+        let is = marks k m (λ v. packedRows (now (bytes .entry)) stride v c) m 0 in
+        Emitted at is (now (out .entry)) (now (out .exit)) r
+        ) ⌝ }
 {
     let mut to = at;
     let mut j: usize = 0;
@@ -67,17 +68,23 @@ fn column(
     out: &mut [u8],
     at: usize,
 ) -> Done
-    requires { ⌜ (at + size (column k m (packedRows (now bytes) stride) c) ≤ length (now out)) × Shape k m stride × (c < most-columns) ⌝ }
-    requires { ⌜ Live (packedRows (now bytes) stride) m c h × (weight (packedRows (now bytes) stride) m c ≤ 2 * h) ⌝ }
-    ensures { λ r. ⌜ Emitted at (column k m (packedRows (now (bytes .entry)) stride) c) (now (out .entry)) (now (out .exit)) (r .at) ⌝ }
-    ensures { λ r. ⌜ Live (packedRows (now (bytes .entry)) stride) m (c + 1) (r .live) ⌝ }
+    requires { ⌜ (
+        let bits = packedRows (now bytes) stride in
+        Space at (column k m bits c) (now out) × Shape k m stride × (c < most-columns) × Live bits m c h × (ones-in bits m c ≤ 2 * h)
+        ) ⌝ }
+    ensures { λ r. ⌜ (
+        let bits = packedRows (now (bytes .entry)) stride in
+        Emitted at (column k m bits c) (now (out .entry)) (now (out .exit)) (r .at) × Live bits m (c + 1) (r .live)
+        ) ⌝ }
 {
-    let w = count_marks(bytes, stride, m, c).rows;
-    let live = live_after(h, w, m);
+    let passed = count_column(bytes, stride, m, c, h);
     let mut to = split(k, m, c, h, out, at);
     to = marks(bytes, stride, k, m, c, out, to);
-    to = keep(k, m, w, live, out, to);
-    Done { at: to, live }
+    to = keep(k, m, passed.rows, passed.live, out, to);
+    Done {
+        at: to,
+        live: passed.live,
+    }
 }
 
 // All n columns.
@@ -90,9 +97,14 @@ pub(crate) fn columns(
     out: &mut [u8],
     at: usize,
 ) -> usize
-    requires { ⌜ (at + size (blocks n (column k m (packedRows (now bytes) stride))) ≤ length (now out)) × Shape k m stride ⌝ }
-    requires { ⌜ (n ≤ most-columns) × Roomy m n (packedRows (now bytes) stride) ⌝ }
-    ensures { λ r. ⌜ Emitted at (blocks n (column k m (packedRows (now (bytes .entry)) stride))) (now (out .entry)) (now (out .exit)) r ⌝ }
+    requires { ⌜ (
+        let bits = packedRows (now bytes) stride in
+        Space at (blocks n (column k m bits)) (now out) × Shape k m stride × (n ≤ most-columns) × Roomy m n bits
+        ) ⌝ }
+    ensures { λ r. ⌜ (
+        let bits = packedRows (now (bytes .entry)) stride in
+        Emitted at (blocks n (column k m bits)) (now (out .entry)) (now (out .exit)) r
+        ) ⌝ }
 {
     let mut h: usize = 1;
     let mut to = at;

@@ -1,12 +1,10 @@
-// The parts of a program that do not look at the matrix (01, "Translation"). Each is written at byte `at` of a buffer that has room for it, and
-// answers the byte behind it.
+// The parts of a program that do not look at the matrix (01, "Translation"). Each is written at byte `at` of a buffer that has room for
+// it, and answers the byte behind it.
 ghost use mathlib.Core.List.{_∷_, []};
 ghost use Prim.Native.Nat.{_+_, _≤_, _<_};
-ghost use lib.ListN.{length};
-ghost use Rattle.programs.specs.Instructions.{lengthOf};
 ghost use Rattle.programs.specs.Limits.{most-outputs};
 ghost use Rattle.compiler.specs.Translation.{apart, begin, end, ifSet, keep, mark, split};
-ghost use Rattle.compiler.specs.Emitting.{Emitted, Fit, size};
+ghost use Rattle.compiler.specs.Emitting.{Emitted, Fit, Space};
 use crate::registers::REG_B;
 use crate::registers::REG_H;
 use crate::registers::REG_N;
@@ -18,7 +16,7 @@ use programs::encode;
 
 // One instruction.
 fn put(i: Instruction, out: &mut [u8], at: usize) -> usize
-    requires { ⌜ at + lengthOf i ≤ length (now out) ⌝ }
+    requires { ⌜ Space at (i ∷ []) (now out) ⌝ }
     ensures { λ r. ⌜ Emitted at (i ∷ []) (now (out .entry)) (now (out .exit)) r ⌝ }
 {
     encode(i, out, at);
@@ -27,8 +25,8 @@ fn put(i: Instruction, out: &mut [u8], at: usize) -> usize
 
 // One instruction for a set bit, and none for a clear one.
 fn put_if(b: usize, i: Instruction, out: &mut [u8], at: usize) -> usize
-    requires { ⌜ at + size (ifSet b i) ≤ length (now out) ⌝ }
-    ensures { λ r. ⌜ Emitted at (ifSet b i) (now (out .entry)) (now (out .exit)) r ⌝ }
+    requires { ⌜ Space at (ifSet b (i ∷ [])) (now out) ⌝ }
+    ensures { λ r. ⌜ Emitted at (ifSet b (i ∷ [])) (now (out .entry)) (now (out .exit)) r ⌝ }
 {
     if b == 0 {
         return at;
@@ -38,7 +36,7 @@ fn put_if(b: usize, i: Instruction, out: &mut [u8], at: usize) -> usize
 
 // X_0 set, H and each V clear.
 pub(crate) fn begin(k: usize, out: &mut [u8], at: usize) -> usize
-    requires { ⌜ (at + size (begin k) ≤ length (now out)) × (1 + k ≤ most-outputs) ⌝ }
+    requires { ⌜ Space at (begin k) (now out) × (1 + k ≤ most-outputs) ⌝ }
     ensures { λ r. ⌜ Emitted at (begin k) (now (out .entry)) (now (out .exit)) r ⌝ }
 {
     let mut to = put(Instruction::Ones(reg_x(k, 0)), out, at);
@@ -51,7 +49,7 @@ pub(crate) fn begin(k: usize, out: &mut [u8], at: usize) -> usize
 
 // Distance i becomes 2i or 2i + 1.
 fn apart(k: usize, m: usize, i: usize, out: &mut [u8], at: usize) -> usize
-    requires { ⌜ (at + size (apart k m i) ≤ length (now out)) × Fit k m × (i < m) ⌝ }
+    requires { ⌜ Space at (apart k m i) (now out) × Fit k m × (i < m) ⌝ }
     ensures { λ r. ⌜ Emitted at (apart k m i) (now (out .entry)) (now (out .exit)) r ⌝ }
 {
     let from = reg_x(k, i);
@@ -65,7 +63,7 @@ fn apart(k: usize, m: usize, i: usize, out: &mut [u8], at: usize) -> usize
 
 // Bit c is read, and each of the h live distances is doubled.
 pub(crate) fn split(k: usize, m: usize, c: usize, h: usize, out: &mut [u8], at: usize) -> usize
-    requires { ⌜ (at + size (split k m c h) ≤ length (now out)) × Fit k m × (c < 65536) × (h ≤ m) ⌝ }
+    requires { ⌜ Space at (split k m c h) (now out) × Fit k m × (c < 65536) × (h ≤ m) ⌝ }
     ensures { λ r. ⌜ Emitted at (split k m c h) (now (out .entry)) (now (out .exit)) r ⌝ }
 {
     let mut to = put(Instruction::Input(REG_B, c as u16), out, at);
@@ -78,7 +76,7 @@ pub(crate) fn split(k: usize, m: usize, c: usize, h: usize, out: &mut [u8], at: 
 
 // Row v is the set row met j-th: H, and V_t for each set bit t of v, lowest first.
 pub(crate) fn mark(k: usize, m: usize, v: usize, j: usize, out: &mut [u8], at: usize) -> usize
-    requires { ⌜ (at + size (mark k m v j) ≤ length (now out)) × Fit k m × (j < m) ⌝ }
+    requires { ⌜ Space at (mark k m v j) (now out) × Fit k m × (j < m) ⌝ }
     ensures { λ r. ⌜ Emitted at (mark k m v j) (now (out .entry)) (now (out .exit)) r ⌝ }
 {
     let y = reg_y(k, m, j);
@@ -92,7 +90,7 @@ pub(crate) fn mark(k: usize, m: usize, v: usize, j: usize, out: &mut [u8], at: u
 
 // After w set rows distance w + i is distance i, for each of the h that stay live.
 pub(crate) fn keep(k: usize, m: usize, w: usize, h: usize, out: &mut [u8], at: usize) -> usize
-    requires { ⌜ (at + size (keep k m w h) ≤ length (now out)) × Fit k m × (w ≤ m) × (h ≤ m) ⌝ }
+    requires { ⌜ Space at (keep k m w h) (now out) × Fit k m × (w ≤ m) × (h ≤ m) ⌝ }
     ensures { λ r. ⌜ Emitted at (keep k m w h) (now (out .entry)) (now (out .exit)) r ⌝ }
 {
     let mut to = at;
@@ -106,7 +104,7 @@ pub(crate) fn keep(k: usize, m: usize, w: usize, h: usize, out: &mut [u8], at: u
 
 // H, then each V.
 pub(crate) fn end(k: usize, out: &mut [u8], at: usize) -> usize
-    requires { ⌜ (at + size (end k) ≤ length (now out)) × (1 + k ≤ most-outputs) ⌝ }
+    requires { ⌜ Space at (end k) (now out) × (1 + k ≤ most-outputs) ⌝ }
     ensures { λ r. ⌜ Emitted at (end k) (now (out .entry)) (now (out .exit)) r ⌝ }
 {
     let mut to = put(Instruction::Output(0, REG_H), out, at);

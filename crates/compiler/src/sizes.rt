@@ -2,16 +2,17 @@
 ghost use mathlib.Core.Path.{_≡_};
 ghost use Prim.Native.Nat.{_+_, _-_, _*_, _≤_, min};
 ghost use lib.ListN.{length};
-ghost use Rattle.laws.specs.Lay.{blocks};
-ghost use Rattle.files.specs.Matrix.{most-columns, most-rows};
+ghost use Rattle.laws.specs.Lists.{blocks};
+ghost use Rattle.files.specs.Matrix.{ones-in, most-rows};
+ghost use Rattle.fields.specs.Limits.{most-columns};
 ghost use Rattle.programs.specs.Limits.{most-instructions};
 ghost use Rattle.programs.specs.Header.{header-length};
 ghost use Rattle.compiler.specs.Translation.{column, rowBits};
 ghost use Rattle.compiler.specs.Room.{Roomy};
-ghost use Rattle.compiler.specs.EmittingColumns.{Counted, packedRows};
+ghost use Rattle.compiler.specs.EmittingColumns.{Live, Marked, packedRows, Passed};
 ghost use Rattle.compiler.specs.EmittingProgram.{Measured, Packed};
-use files::bit;
-use files::width;
+use fields::bit;
+use fields::width;
 use programs::Instruction;
 use programs::Program;
 
@@ -24,7 +25,7 @@ fn row_bits(m: usize) -> usize
 }
 
 // The live count after a column with w ones, before which it was h: the smaller of 2h - w and m.
-pub(crate) fn live_after(h: usize, w: usize, m: usize) -> usize
+fn live_after(h: usize, w: usize, m: usize) -> usize
     requires { ⌜ (h ≤ most-rows) × (w ≤ 2 * h) ⌝ }
     ensures { λ r. ⌜ r ≡ min (2 * h - w) m ⌝ }
 {
@@ -33,15 +34,15 @@ pub(crate) fn live_after(h: usize, w: usize, m: usize) -> usize
 }
 
 // The set rows of a column, and the instructions that mark them.
-pub(crate) struct Marks {
-    pub rows: usize,
-    pub instructions: usize,
+struct Marks {
+    rows: usize,
+    instructions: usize,
 }
 
 // Counts column c of m packed rows: each set row v takes one instruction for H and one for each set bit of v.
-pub(crate) fn count_marks(bytes: &[u8], stride: usize, m: usize, c: usize) -> Marks
+fn count_marks(bytes: &[u8], stride: usize, m: usize, c: usize) -> Marks
     requires { ⌜ (m ≤ most-rows) × (stride ≤ most-columns) ⌝ }
-    ensures { λ r. ⌜ Counted (packedRows (now (bytes .entry)) stride) m c (r .rows) (r .instructions) ⌝ }
+    ensures { λ r. ⌜ Marked (λ v. packedRows (now (bytes .entry)) stride v c) m (r .rows) (r .instructions) ⌝ }
 {
     let mut rows: usize = 0;
     let mut instructions: usize = 0;
@@ -53,6 +54,36 @@ pub(crate) fn count_marks(bytes: &[u8], stride: usize, m: usize, c: usize) -> Ma
     Marks { rows, instructions }
 }
 
+// What is counted of a column: its marks, and the live count after it.
+pub(crate) struct ColumnCounts {
+    pub rows: usize,
+    pub instructions: usize,
+    pub live: usize,
+}
+
+// Counts column c of m packed rows, before which the live count is h.
+pub(crate) fn count_column(
+    bytes: &[u8],
+    stride: usize,
+    m: usize,
+    c: usize,
+    h: usize,
+) -> ColumnCounts
+    requires { ⌜ (
+        let bits = packedRows (now bytes) stride in
+        (m ≤ most-rows) × (stride ≤ most-columns) × Live bits m c h × (ones-in bits m c ≤ 2 * h)
+        ) ⌝ }
+    ensures { λ r. ⌜ Passed (packedRows (now (bytes .entry)) stride) m c h (r .rows) (r .instructions) (r .live) ⌝ }
+{
+    let marks = count_marks(bytes, stride, m, c);
+    let live = live_after(h, marks.rows, m);
+    ColumnCounts {
+        rows: marks.rows,
+        instructions: marks.instructions,
+        live,
+    }
+}
+
 // The instructions of all n columns of m packed rows.
 fn count_columns(bytes: &[u8], stride: usize, m: usize, n: usize) -> usize
     requires { ⌜ (m ≤ most-rows) × (n ≤ most-columns) × (stride ≤ most-columns) × Roomy m n (packedRows (now bytes) stride) ⌝ }
@@ -61,15 +92,15 @@ fn count_columns(bytes: &[u8], stride: usize, m: usize, n: usize) -> usize
     let mut h: usize = 1;
     let mut count: usize = 0;
     for c in 0..n {
-        let marks = count_marks(bytes, stride, m, c);
-        let next = live_after(h, marks.rows, m);
-        count += 2 + 2 * h + marks.instructions + next;
-        h = next;
+        let passed = count_column(bytes, stride, m, c, h);
+        count += 2 + 2 * h + passed.instructions + passed.live;
+        h = passed.live;
     }
     count
 }
 
-// The bytes of a program whose n columns are `count` instructions: each of those takes 10, but for the INPUT and the NOT of a column, which take 8.
+// The bytes of a program whose n columns are `count` instructions: each of those takes 10, but for the INPUT and the NOT of a column, which
+// take 8.
 fn program_length(k: usize, n: usize, count: usize) -> usize
     requires { ⌜ (3 + 2 * k + count ≤ most-instructions) × (4 * n ≤ 10 * count) ⌝ }
     ensures { λ r. ⌜ r ≡ header-length + 6 * (2 + k) + 10 * count - 4 * n + 8 * (1 + k) ⌝ }

@@ -4,21 +4,20 @@ ghost use Prim.Native.Nat.{_≤_};
 ghost use lib.ListN.{length};
 ghost use Rattle.laws.specs.Lay.{lay};
 ghost use Rattle.laws.specs.Outcome.{laid, mapped};
-ghost use Rattle.files.specs.Files.{written};
+ghost use Rattle.fields.specs.Refusal.{written};
 ghost use Rattle.programs.specs.Reading.{Within};
 ghost use Rattle.compiler.specs.Translation.{compiled, compileOf};
-ghost use Rattle.compiler.specs.EmittingRows.{described, packedMatrix};
-ghost use Rattle.compiler.specs.EmittingProgram.{Measured, Packed};
+ghost use Rattle.compiler.specs.EmittingProgram.{described, Measured, Packed, packedMatrix};
 use crate::columns::columns;
 use crate::parts::begin;
 use crate::parts::end;
 use crate::sizes::Measures;
 use crate::sizes::measure;
+use fields::Refusal;
+use fields::Written;
+use fields::width;
 use files::Checked;
-use files::Refusal;
-use files::Written;
 use files::check;
-use files::width;
 use programs::Program;
 use programs::write_header;
 
@@ -37,8 +36,10 @@ fn describe(k: usize, m: usize, n: usize, count: usize) -> Program
 
 // Writes the program of m packed rows of n bits, as it was measured, at the front of `program`.
 fn write(bytes: &[u8], m: usize, n: usize, size: Measures, program: &mut [u8])
-    requires { ⌜ Packed (now bytes) m n × Measured (now bytes) m n (size .bits) (size .count) (size .length) ⌝ }
-    requires { ⌜ size .length ≤ length (now program) ⌝ }
+    requires { ⌜ (
+        Packed (now bytes) m n × Measured (now bytes) m n (size .bits) (size .count) (size .length) ×
+        (size .length ≤ length (now program))
+        ) ⌝ }
     ensures { λ _. ⌜ now (program .exit) ≡ lay (compiled (packedMatrix (now (bytes .entry)) m n)) (now (program .entry)) ⌝ }
 {
     let k = size.bits;
@@ -48,10 +49,13 @@ fn write(bytes: &[u8], m: usize, n: usize, size: Measures, program: &mut [u8])
     end(k, program, at);
 }
 
-// Writes the program of a matrix file at the front of `program`, and answers its length; or refusal 1 to 6 for the file, then 13 for `program`.
+// Writes the program of a matrix file at the front of `program`, and answers its length; or refusal 1 to 6 for the file, then 13 for
+// `program`.
 pub fn compile(file: &[u8], program: &mut [u8]) -> Written
-    ensures { λ r. ⌜ written r ≡ mapped length (compileOf (now (file .entry)) (length (now (program .entry)))) ⌝ }
-    ensures { λ r. ⌜ now (program .exit) ≡ lay (laid (λ bytes. bytes) (compileOf (now (file .entry)) (length (now (program .entry))))) (now (program .entry)) ⌝ }
+    ensures { λ r. ⌜ (
+        let o = compileOf (now (file .entry)) (length (now (program .entry))) in
+        (written r ≡ mapped length o) × (now (program .exit) ≡ lay (laid (λ bytes. bytes) o) (now (program .entry)))
+        ) ⌝ }
 {
     match check(file) {
         Checked::Refused(why) => Written::Refused(why),

@@ -1,34 +1,29 @@
-// Drawing 64 samples in one call: check, slice, start and read (01, "Runs, words, samples"). A program and 64 strings go to 64 samples on words of the
-// call's own, so that no batch can inherit another's.
+// Drawing 64 samples in one call: check, slice, start and read (01, "Runs, words, samples"). A program and 64 strings go to 64 samples on
+// words of the call's own, so that no batch can inherit another's.
 //
-// Both operations take any content and any length, and answer a result or one refusal. Their contracts cite `drawOf` and `drawSignedOf` of
-// specs/Drawing.antt; the samples end as they began, with what the outcome lays at their front.
+// Both operations take any content and any length, and answer as the reading of samples does. Their contracts cite `drawOf` and
+// `drawSignedOf` of specs/Drawing.antt; the samples end as they began, with what the outcome lays at their front.
 ghost use mathlib.Core.Path.{_≡_};
 ghost use Prim.Native.Nat.{_≤_};
 ghost use lib.ListN.{length};
 ghost use Rattle.laws.specs.Lay.{lay};
 ghost use Rattle.laws.specs.Outcome.{laid, mapped, refused};
-ghost use Rattle.files.specs.Refusal.{numberOf};
+ghost use Rattle.fields.specs.Refusal.{numberOf};
 ghost use Rattle.programs.specs.Limits.{most-outputs, most-registers};
-ghost use Rattle.drawing.specs.Drawing.{afterOwn, batched, batchOf, drawn, drawOf, drawSignedOf};
-use files::Refusal;
+ghost use Rattle.lanes.specs.Samples.{sampled};
+ghost use Rattle.drawing.specs.Drawing.{afterOwn, batched, batchOf, drawOf, drawSignedOf, few};
+use checker::check;
+use fields::Refusal;
 use lanes::LANES;
 use lanes::Sampled;
 use lanes::Sliced;
 use lanes::slice;
 use machine::Ran;
 use machine::State;
-use machine::check;
 use machine::start;
 use programs::Checked;
 use programs::Program;
 use programs::read_header;
-
-// A refusal, or that the samples of all lanes are laid down.
-pub enum Drawn {
-    Refused(Refusal),
-    All,
-}
 
 // A refusal, or how many outputs a batch has left.
 enum Batch {
@@ -55,8 +50,12 @@ fn run_batch(
     outputs: &mut [u64],
 ) -> Batch
     requires { ⌜ (most-registers ≤ length (now registers)) × (most-outputs ≤ length (now outputs)) ⌝ }
-    ensures { λ r. ⌜ batched r ≡ mapped length (batchOf (now (program .entry)) (now (strings .entry)) room) ⌝ }
-    ensures { λ r. ⌜ now (outputs .exit) ≡ lay (laid (λ xs. xs) (batchOf (now (program .entry)) (now (strings .entry)) room)) (now (outputs .entry)) ⌝ }
+    ensures { λ r. ⌜ (
+        let o = batchOf (now (program .entry)) (now (strings .entry)) room in
+        (batched r ≡ mapped length o) ×
+        (now (outputs .exit) ≡ lay (laid (λ xs. xs) o) (now (outputs .entry)))
+        ) ⌝ }
+    ensures { λ r. ⌜ few r ⌝ }
 {
     let p = match read_header(program) {
         Checked::Refused(why) => return Batch::Refused(why),
@@ -76,11 +75,14 @@ fn run_batch(
     }
 }
 
-// Draws 64 samples: runs the program on 64 strings, one after another, of as many bits as its header has inputs, and lays the samples at the front of
-// `samples`; or a refusal of the program, 13 or 5 for the strings, then 13 for the samples.
-pub fn draw(program: &[u8], strings: &[u8], samples: &mut [u8]) -> Drawn
-    ensures { λ r. ⌜ drawn r ≡ mapped (λ xs. tt) (drawOf (now (program .entry)) (now (strings .entry)) (length (now (samples .entry)))) ⌝ }
-    ensures { λ r. ⌜ now (samples .exit) ≡ lay (laid (λ xs. xs) (drawOf (now (program .entry)) (now (strings .entry)) (length (now (samples .entry))))) (now (samples .entry)) ⌝ }
+// Draws 64 samples: runs the program on 64 strings, one after another, of as many bits as its header has inputs, and lays the samples at
+// the front of `samples`; or a refusal of the program, 13 or 5 for the strings, then 13 for the samples.
+pub fn draw(program: &[u8], strings: &[u8], samples: &mut [u8]) -> Sampled
+    ensures { λ r. ⌜ (
+        let o = drawOf (now (program .entry)) (now (strings .entry)) (length (now (samples .entry))) in
+        (sampled r ≡ mapped (λ xs. tt) o) ×
+        (now (samples .exit) ≡ lay (laid (λ xs. xs) o) (now (samples .entry)))
+        ) ⌝ }
 {
     let state = State::fresh();
     let mut registers = state.registers;
@@ -92,18 +94,18 @@ pub fn draw(program: &[u8], strings: &[u8], samples: &mut [u8]) -> Drawn
         &mut registers,
         &mut outputs,
     ) {
-        Batch::Refused(why) => Drawn::Refused(why),
-        Batch::Outputs(n) => match lanes::samples(&outputs[..n], samples) {
-            Sampled::Refused(why) => Drawn::Refused(why),
-            Sampled::All => Drawn::All,
-        },
+        Batch::Refused(why) => Sampled::Refused(why),
+        Batch::Outputs(n) => lanes::samples(&outputs[..n], samples),
     }
 }
 
 // Draws 64 signed samples, with a sign word; refusals as for `draw`.
-pub fn draw_signed(program: &[u8], strings: &[u8], sign: u64, samples: &mut [i16]) -> Drawn
-    ensures { λ r. ⌜ drawn r ≡ mapped (λ xs. tt) (drawSignedOf (now (program .entry)) (now (strings .entry)) sign (length (now (samples .entry)))) ⌝ }
-    ensures { λ r. ⌜ now (samples .exit) ≡ lay (laid (λ xs. xs) (drawSignedOf (now (program .entry)) (now (strings .entry)) sign (length (now (samples .entry))))) (now (samples .entry)) ⌝ }
+pub fn draw_signed(program: &[u8], strings: &[u8], sign: u64, samples: &mut [i16]) -> Sampled
+    ensures { λ r. ⌜ (
+        let o = drawSignedOf (now (program .entry)) (now (strings .entry)) sign (length (now (samples .entry))) in
+        (sampled r ≡ mapped (λ xs. tt) o) ×
+        (now (samples .exit) ≡ lay (laid (λ xs. xs) o) (now (samples .entry)))
+        ) ⌝ }
 {
     let state = State::fresh();
     let mut registers = state.registers;
@@ -115,10 +117,7 @@ pub fn draw_signed(program: &[u8], strings: &[u8], sign: u64, samples: &mut [i16
         &mut registers,
         &mut outputs,
     ) {
-        Batch::Refused(why) => Drawn::Refused(why),
-        Batch::Outputs(n) => match lanes::signed_samples(&outputs[..n], sign, samples) {
-            Sampled::Refused(why) => Drawn::Refused(why),
-            Sampled::All => Drawn::All,
-        },
+        Batch::Refused(why) => Sampled::Refused(why),
+        Batch::Outputs(n) => lanes::signed_samples(&outputs[..n], sign, samples),
     }
 }

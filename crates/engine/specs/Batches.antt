@@ -1,21 +1,23 @@
--- Slicing 64 strings, running the compiled program and reading samples gives for each string the walk's row, or 255; signed likewise. Assumes nothing.
+-- Slicing 64 strings, running the compiled program and reading samples gives for each string the walk's row, or 255; signed likewise.
+-- Assumes nothing.
 use Prim.Native.Nat.{ℕ, _*_, _^_, _≤_, _<_}
-use mathlib.Core.Path.{_≡_, ap, _∙_}
+use mathlib.Core.Path.{_≡_, sym, ap, _∙_}
+use mathlib.Core.Bool.{false}
 use mathlib.Core.List.{List}
 use mathlib.Core.Logic.{⊎-elim}
 use native.Mathlib.Omega.{arith}
 use lib.ListN.{length, getD, List·getD-eq-default}
+use Rattle.laws.specs.Tests.{lt-or-ge}
 use Rattle.laws.specs.Words.{bitAt}
-use Rattle.laws.specs.Places.{lt-or-ge}
-use Rattle.laws.specs.Lay.{upto, upto-eq, getD-upto, length-upto}
+use Rattle.laws.specs.Lists.{upto, upto-eq, getD-upto, length-upto}
 use Rattle.laws.specs.Outcome.{gives, mapped, _>>=_, gives-inj}
-use Rattle.files.specs.Fields.{width, bitOf}
+use Rattle.fields.specs.Fields.{width, bitOf}
 use Rattle.files.specs.Matrix.{Matrix}
+use Rattle.fields.specs.Limits.{outside, inside}
 use Rattle.files.specs.Files.{matrixOf}
-use Rattle.files.specs.Strings.{stringsOf}
+use Rattle.fields.specs.Strings.{stringsOf}
 use Rattle.files.specs.RoundTrip.{read-accepted}
-use Rattle.files.specs.Checks.{inside}
-use Rattle.machine.specs.Runs.{Ended, startOf}
+use Rattle.machine.specs.Runs.{startOf}
 use Rattle.walk.specs.Walk.{Answer, drawn, answerOf, walkOf}
 use Rattle.walk.specs.Theorems.{walk-is}
 use Rattle.lanes.specs.Slicing.{lanes, stringAt, wordOf}
@@ -24,26 +26,32 @@ use Rattle.lanes.specs.Samples.{sampleOf, code, signedCode, eachLane, samplesOf
 use Rattle.lanes.specs.Lanes.{lane-of-word, word-lt, string-bit, string-sound}
 use Rattle.compiler.specs.Translation.{program, compiled}
 use Rattle.compiler.specs.Width.{few-bits}
-use Rattle.engine.specs.Lanewise.{laneBits, ended, start-is, long, lane-draws}
+use Rattle.engine.specs.Given.{Choice, Fair, given}
+use Rattle.engine.specs.Lanewise.{Starts, starts, lane-draws}
 
 -- the words that slicing lays down
 abbrev pub slicedWords : ℕ → List ℕ → List ℕ
 slicedWords n strings = upto n (wordOf strings (width n))
 
--- what string j of 64 gives: the walk's row, or a miss
+-- the bits of string j of 64, and what it gives: the walk's row, or a miss
+abbrev pub stringBits : ℕ → List ℕ → ℕ → List ℕ
+stringBits n strings j = upto n (bitOf strings (j * width n))
+
 abbrev pub drawnAt : Matrix → List ℕ → ℕ → Answer
-drawnAt M strings j = answerOf (drawn M (upto (M .columns) (bitOf strings (j * width (M .columns)))))
+drawnAt M strings j = answerOf (drawn M (stringBits (M .columns) strings j))
 
 words-small : (n : ℕ) (strings : List ℕ) (i : ℕ) → getD (slicedWords n strings) i 0 < 2 ^ lanes
 words-small n strings i =
     ⊎-elim (λ (l : i < n). rw (getD-upto n (wordOf strings (width n)) i 0 l) (word-lt strings (width n) i))
-    (λ (l : n ≤ i). rw (List·getD-eq-default (slicedWords n strings) 0 {n = i} (omega (arith, length-upto n (wordOf strings (width n))))) (omega arith))
+    (λ (l : n ≤ i).
+    rw (List·getD-eq-default (slicedWords n strings) 0 {n = i} (omega (arith, length-upto n (wordOf strings (width n))))) (omega arith))
     (lt-or-ge i n)
 
-lane-string : (n : ℕ) (strings : List ℕ) (j : ℕ) → j < lanes → laneBits n (slicedWords n strings) j ≡ upto n (bitOf strings (j * width n))
-lane-string n strings j h =
-    upto-eq n (λ i. bitAt (getD (slicedWords n strings) i 0) j) (bitOf strings (j * width n))
-    (λ i l. ap (λ (x : ℕ). bitAt x j) (getD-upto n (wordOf strings (width n)) i 0 l) ∙ lane-of-word strings (width n) i j h)
+lane-string : (n : ℕ) (strings : List ℕ) (j i : ℕ) → j < lanes → i < n →
+    bitAt (getD (slicedWords n strings) i 0) j ≡ getD (stringBits n strings j) i 0
+lane-string n strings j i h l =
+    ap (λ (x : ℕ). bitAt x j) (getD-upto n (wordOf strings (width n)) i 0 l) ∙
+    (lane-of-word strings (width n) i j h ∙ sym (getD-upto n (bitOf strings (j * width n)) i 0 l))
 
 module _ (file : List ℕ) (M : Matrix) (e : matrixOf file ≡ gives M) (strings : List ℕ) where
   -- what a string gives is what walking the file on it, packed by itself, comes to
@@ -55,54 +63,65 @@ module _ (file : List ℕ) (M : Matrix) (e : matrixOf file ≡ gives M) (strings
       (upto-eq (M .columns) (bitOf (stringAt (M .columns) strings j) 0) (bitOf strings (j * width (M .columns)))
       (λ i l. string-bit (M .columns) strings j i (omega arith)))
 
-  module _ (registers outputs : List ℕ) (budget room : ℕ) (r : program M .registers ≤ length registers) (o : program M .outputs ≤ length outputs)
-      (enough : program M .count ≤ budget) (space : lanes ≤ room) where
-    words-there : program M .inputs ≤ length (slicedWords (M .columns) strings)
+  module _ (registers outputs : List ℕ) (budget room : ℕ) (r : program M .registers ≤ length registers)
+      (o : program M .outputs ≤ length outputs) (enough : program M .count ≤ budget) (space : lanes ≤ room) where
+    abbrev chosen : ℕ → Choice
+    chosen j =
+        record { lane = j; inputs = slicedWords (M .columns) strings; registers = registers; outputs = outputs; budget = budget }
+
+    fair : (j : ℕ) → j < lanes → Fair (program M) (stringBits (M .columns) strings j) (chosen j)
     unfolding program
-    words-there = omega (arith, length-upto (M .columns) (wordOf strings (width (M .columns))))
+    fair j h =
+        record {
+          in-word = h;
+          words = words-small (M .columns) strings;
+          carries = λ i l. lane-string (M .columns) strings j i h l;
+          inputs-there = omega (arith, length-upto (M .columns) (wordOf strings (width (M .columns))));
+          registers-there = r;
+          outputs-there = o;
+          enough = enough;
+        }
 
-    abbrev after : Ended ℕ
-    after =
-        ended M (read-accepted file M e) (slicedWords (M .columns) strings) registers outputs budget 0 (omega arith) (words-small (M .columns) strings)
-        words-there r o enough
+    bits-many : (j : ℕ) → length (stringBits (M .columns) strings j) ≡ M .columns
+    bits-many j = length-upto (M .columns) (bitOf strings (j * width (M .columns)))
 
-    started : startOf (compiled M) (slicedWords (M .columns) strings) registers outputs budget ≡ gives after
-    started =
-        start-is M (read-accepted file M e) (slicedWords (M .columns) strings) registers outputs budget 0 (omega arith) (words-small (M .columns) strings)
-        words-there r o enough
+    -- where the start ends, whichever lane is looked at
+    ending : Starts M (chosen 0)
+    ending = starts M (read-accepted file M e) _ (bits-many 0) (chosen 0) (fair 0 (omega arith))
 
-    lane-says : (j : ℕ) → j < lanes → sampleOf (after .state .outputs) j ≡ drawnAt M strings j
-    lane-says j h =
-        gives-inj
-        ((rw started at
-        (lane-draws M (read-accepted file M e) (slicedWords (M .columns) strings) registers outputs budget j h (words-small (M .columns) strings)
-        words-there r o enough)) ∙
-        ap (λ (l : List ℕ). gives (answerOf (drawn M l))) (lane-string (M .columns) strings j h))
+    abbrev left : List ℕ
+    left = ending .ended .state .outputs
 
-    few : (1 ≤ length (after .state .outputs)) × (length (after .state .outputs) ≤ most-outputs)
+    lane-left : (j : ℕ) → j < lanes → sampleOf left j ≡ drawnAt M strings j
+    unfolding given
+    lane-left j h =
+        gives-inj (rw (ending .is) at (lane-draws M (read-accepted file M e) _ (bits-many j) (chosen j) (fair j h)))
+
+    few : outside most-outputs (length left) ≡ false
     few =
         let a = read-accepted file M e in
-        let l =
-        long M a (slicedWords (M .columns) strings) registers outputs budget 0 (omega arith) (words-small (M .columns) strings) words-there r o enough in
-        (omega (arith, l), omega (arith, l, few-bits (M .rows) (a .some-rows) (a .few-rows)))
+        let k = few-bits (M .rows) (a .some-rows) (a .few-rows) in
+        inside most-outputs (length left) (omega (arith, ending .long)) (omega (arith, ending .long, k))
 
     -- reading one number from each lane, whatever is made of what it gives
     each-lane : {A : Type 0} (f : ℕ → Answer → A) →
-        (startOf (compiled M) (slicedWords (M .columns) strings) registers outputs budget >>= (λ x. eachLane (x .state .outputs) room (λ j. f j (sampleOf (x .state .outputs) j)))) ≡
+        (startOf (compiled M) (slicedWords (M .columns) strings) registers outputs budget >>=
+        (λ x. eachLane (x .state .outputs) room (λ j. f j (sampleOf (x .state .outputs) j)))) ≡
         gives (upto lanes (λ j. f j (drawnAt M strings j)))
     each-lane f =
-        rw started
-        (lanes-give (after .state .outputs) room (λ j. f j (sampleOf (after .state .outputs) j)) (inside most-outputs (length (after .state .outputs)) (few .0) (few .1)) space ∙
-        ap gives
-        (upto-eq lanes (λ j. f j (sampleOf (after .state .outputs) j)) (λ j. f j (drawnAt M strings j)) (λ j h. ap (f j) (lane-says j h))))
+        rw (ending .is)
+        (lanes-give left room (λ j. f j (sampleOf left j)) few space ∙
+        ap gives (upto-eq lanes (λ j. f j (sampleOf left j)) (λ j. f j (drawnAt M strings j)) (λ j h. ap (f j) (lane-left j h))))
 
     -- sample j is that of the walk on string j
-    pub batch-samples : (startOf (compiled M) (slicedWords (M .columns) strings) registers outputs budget >>= (λ x. samplesOf (x .state .outputs) room)) ≡
+    pub batch-samples :
+        (startOf (compiled M) (slicedWords (M .columns) strings) registers outputs budget >>= (λ x. samplesOf (x .state .outputs) room)) ≡
         gives (upto lanes (λ j. code (drawnAt M strings j)))
     batch-samples = each-lane (λ j g. code g)
 
     -- and signed, with a sign word
     pub batch-signed : (sign : ℕ) →
-        (startOf (compiled M) (slicedWords (M .columns) strings) registers outputs budget >>= (λ x. signedSamplesOf (x .state .outputs) sign room)) ≡
+        (startOf (compiled M) (slicedWords (M .columns) strings) registers outputs budget >>=
+        (λ x. signedSamplesOf (x .state .outputs) sign room)) ≡
         gives (upto lanes (λ j. signedCode (bitAt sign j) (drawnAt M strings j)))
     batch-signed sign = each-lane (λ j g. signedCode (bitAt sign j) g)

@@ -9,45 +9,71 @@ use lib.ListN.{length, replicate}
 use Rattle.laws.specs.Tests.{never, both, same, same-is}
 use Rattle.laws.specs.Sums.{sumTo, any}
 use Rattle.laws.specs.Digits.{number, digit}
-use Rattle.laws.specs.Lay.{blocks, upto}
+use Rattle.laws.specs.Lists.{blocks, upto}
 use Rattle.laws.specs.Outcome.{Outcome, refused, gives, mapped, _>>=_}
-use Rattle.files.specs.Fields.{fieldOf, packedBit, padded, packed, spare}
-use Rattle.files.specs.Matrix.{bit, p, total}
+use Rattle.fields.specs.Fields.{fieldOf, packedBit, padded, packed, spare}
+use Rattle.files.specs.Matrix.{bit, p, total, ones-in}
 use Rattle.files.specs.Files.{fileLength, headerBytes, matrixFile, headerOf, unpacked, bodyOf, matrixOf, readOf, writeOf}
-use Rattle.files.specs.Strings.{stringsOf}
-use Rattle.files.specs.Weights.{sum, share, built, buildOf}
+use Rattle.fields.specs.Strings.{stringsOf}
+use Rattle.weights.specs.Weights.{sum, share, built, buildOf}
 use Rattle.programs.specs.declared.description.Program.{Program}
 use Rattle.programs.specs.declared.description.Instruction.{Instruction}
 use Rattle.programs.specs.declared.description.Instruction.the-variants.{Ones, Zero, Input, Not, And, Or, Output}
 use Rattle.programs.specs.Records.{recordBytes}
 use Rattle.programs.specs.Instructions.{instructionBytes, decodeOf, sizedOf}
-use Rattle.programs.specs.Header.{codeBytes, programFile, headerOf as programHeaderOf, headerBytes as programHeader, numbersOf as programNumbers}
+use Rattle.programs.specs.Header.{codeBytes, programFile, headerOf as programHeaderOf, headerBytes as programHeader}
+use Rattle.programs.specs.Header.{numbersOf as programNumbers}
 use Rattle.machine.specs.Meaning.{exec}
-use Rattle.machine.specs.Checks.{checkOf, codeOf, instructionOf, also}
+use Rattle.checker.specs.Checks.{checkOf, codeOf, instructionOf, also}
 use Rattle.machine.specs.Runs.{startOf, startOn, runOf}
 use Rattle.machine.specs.declared.runs.Run.{Run}
-use Rattle.compiler.specs.Translation.{bitsToWrite, rowBits, begin, split, ifSet, mark, met, marks, keep, end, liveBefore, column, translation, program, compiled, compileOf}
-use Rattle.files.specs.Live.{weight}
-use Rattle.walk.specs.Walk.{Drawn, hit, miss, at, scan, then, walk, drawn, walkOf}
-use Rattle.files.specs.declared.weights.Usage.{Usage}
-use Rattle.files.specs.declared.weights.Usage.the-variants.{Plain}
+use Rattle.compiler.specs.Translation.{bitsToWrite, rowBits, ifSet, marks, liveBefore, column}
+use Rattle.compiler.specs.Translation.{translation, program, compiled, compileOf}
+use Rattle.walk.specs.Walk.{at, scan, then, walk, drawn, walkOf}
+use Rattle.walk.specs.declared.Drawn.{Drawn}
+use Rattle.walk.specs.declared.Drawn.the-variants.{Hit as hit, Miss as miss}
+use Rattle.weights.specs.declared.building.Usage.{Usage}
+use Rattle.weights.specs.declared.building.Usage.the-variants.{Plain}
 
--- an operation on what it is given, with room enough for its result, and what it must come to
-pub data Case : Type 0 where
-  -- rows, columns and entries, and the file
-  writes : ℕ → ℕ → List ℕ → Outcome (List ℕ) → Case
-  -- a file, and its entries
-  reads : List ℕ → Outcome (List ℕ) → Case
-  -- weights and columns, and the entries of what is built
-  builds : Usage → List ℕ → ℕ → Outcome (List ℕ) → Case
-  -- a file and a packed string, and the row that the walk hits, or none
-  walks : List ℕ → List ℕ → Outcome (List ℕ) → Case
+-- an operation on what it is given, with room enough for its result
+pub data Operation : Type 0 where
+  -- rows, columns and entries, to a file
+  writes : ℕ → ℕ → List ℕ → Operation
+  -- a file, to its entries
+  reads : List ℕ → Operation
+  -- weights and columns, to the entries of what is built
+  builds : Usage → List ℕ → ℕ → Operation
+  -- a file and a packed string, to the row that the walk hits, or none
+  walks : List ℕ → List ℕ → Operation
   -- the walk of what is built from weights and columns, on a packed string
-  builds-walks : Usage → List ℕ → ℕ → List ℕ → Outcome (List ℕ) → Case
-  -- a matrix file, and the program that it is compiled to
-  compiles : List ℕ → Outcome (List ℕ) → Case
-  -- a matrix file and a budget, and what the start of its program answers: 1 for finished or 0 for stopped, position and count
-  starts : List ℕ → ℕ → Outcome (List ℕ) → Case
+  builds-walks : Usage → List ℕ → ℕ → List ℕ → Operation
+  -- a matrix file, to its program
+  compiles : List ℕ → Operation
+  -- a matrix file and a budget, to what the start of its program answers: 1 for finished or 0 for stopped, position and count
+  starts : List ℕ → ℕ → Operation
+
+-- an operation, and what it must come to
+pub record Case : Type 0 where
+  pub operation : Operation
+  pub must : Outcome (List ℕ)
+
+infix 15 _⇒_
+abbrev pub _⇒_ : Operation → Outcome (List ℕ) → Case
+_⇒_ o q = record { operation = o; must = q }
+
+-- ---- what 01 works with
+-- the file of rows 10, 01, 01, of rows 10, 10, 01, of one row 1, and of rows 1, 1
+three-rows : List ℕ
+three-rows = 0x0b ∷ 0 ∷ 0x20 ∷ 0 ∷ 3 ∷ 0 ∷ 2 ∷ 0 ∷ 0x80 ∷ 0x40 ∷ 0x40 ∷ []
+
+too-much : List ℕ
+too-much = 0x0b ∷ 0 ∷ 0x20 ∷ 0 ∷ 3 ∷ 0 ∷ 2 ∷ 0 ∷ 0x80 ∷ 0x80 ∷ 0x40 ∷ []
+
+one-row : List ℕ
+one-row = 0x09 ∷ 0 ∷ 0x20 ∷ 0 ∷ 1 ∷ 0 ∷ 1 ∷ 0 ∷ 0x80 ∷ []
+
+two-rows : List ℕ
+two-rows = 0x0a ∷ 0 ∷ 0x20 ∷ 0 ∷ 2 ∷ 0 ∷ 1 ∷ 0 ∷ 0x80 ∷ 0x80 ∷ []
 
 -- the program of the listing, for rows 1, 1 of one column
 listed : Program
@@ -57,35 +83,36 @@ listing : List Instruction
 listing =
     Ones 4 ∷ Zero 2 ∷ Zero 3 ∷ Input 0 0 ∷ Not 1 0 ∷ And 6 4 1 ∷ And 7 4 0 ∷ Or 2 2 6 ∷ Or 3 3 6 ∷ Or 2 2 7 ∷ Output 0 2 ∷ Output 1 3 ∷ []
 
+-- ---- the table
 pub cases : List Case
 cases =
     -- rows 10, 01, 01 are the file 0B 00 20 00 03 00 02 00 80 40 40
-    writes 3 2 (1 ∷ 0 ∷ 0 ∷ 1 ∷ 0 ∷ 1 ∷ []) (gives (0x0b ∷ 0 ∷ 0x20 ∷ 0 ∷ 3 ∷ 0 ∷ 2 ∷ 0 ∷ 0x80 ∷ 0x40 ∷ 0x40 ∷ []))
-    ∷ reads (0x0b ∷ 0 ∷ 0x20 ∷ 0 ∷ 3 ∷ 0 ∷ 2 ∷ 0 ∷ 0x80 ∷ 0x40 ∷ 0x40 ∷ []) (gives (1 ∷ 0 ∷ 0 ∷ 1 ∷ 0 ∷ 1 ∷ []))
+    (writes 3 2 (1 ∷ 0 ∷ 0 ∷ 1 ∷ 0 ∷ 1 ∷ []) ⇒ gives three-rows)
+    ∷ (reads three-rows ⇒ gives (1 ∷ 0 ∷ 0 ∷ 1 ∷ 0 ∷ 1 ∷ []))
     -- strings 00 and 01 give 0, 10 gives 2, 11 gives 1
-    ∷ walks (0x0b ∷ 0 ∷ 0x20 ∷ 0 ∷ 3 ∷ 0 ∷ 2 ∷ 0 ∷ 0x80 ∷ 0x40 ∷ 0x40 ∷ []) (0x00 ∷ []) (gives (0 ∷ []))
-    ∷ walks (0x0b ∷ 0 ∷ 0x20 ∷ 0 ∷ 3 ∷ 0 ∷ 2 ∷ 0 ∷ 0x80 ∷ 0x40 ∷ 0x40 ∷ []) (0x40 ∷ []) (gives (0 ∷ []))
-    ∷ walks (0x0b ∷ 0 ∷ 0x20 ∷ 0 ∷ 3 ∷ 0 ∷ 2 ∷ 0 ∷ 0x80 ∷ 0x40 ∷ 0x40 ∷ []) (0x80 ∷ []) (gives (2 ∷ []))
-    ∷ walks (0x0b ∷ 0 ∷ 0x20 ∷ 0 ∷ 3 ∷ 0 ∷ 2 ∷ 0 ∷ 0x80 ∷ 0x40 ∷ 0x40 ∷ []) (0xc0 ∷ []) (gives (1 ∷ []))
+    ∷ (walks three-rows (0x00 ∷ []) ⇒ gives (0 ∷ []))
+    ∷ (walks three-rows (0x40 ∷ []) ⇒ gives (0 ∷ []))
+    ∷ (walks three-rows (0x80 ∷ []) ⇒ gives (2 ∷ []))
+    ∷ (walks three-rows (0xc0 ∷ []) ⇒ gives (1 ∷ []))
     -- one row 1, one column: string 0 gives 0, string 1 misses
-    ∷ walks (0x09 ∷ 0 ∷ 0x20 ∷ 0 ∷ 1 ∷ 0 ∷ 1 ∷ 0 ∷ 0x80 ∷ []) (0x00 ∷ []) (gives (0 ∷ []))
-    ∷ walks (0x09 ∷ 0 ∷ 0x20 ∷ 0 ∷ 1 ∷ 0 ∷ 1 ∷ 0 ∷ 0x80 ∷ []) (0x80 ∷ []) (gives [])
+    ∷ (walks one-row (0x00 ∷ []) ⇒ gives (0 ∷ []))
+    ∷ (walks one-row (0x80 ∷ []) ⇒ gives [])
     -- the listing of rows 1, 1 of one column
-    ∷ compiles (0x0a ∷ 0 ∷ 0x20 ∷ 0 ∷ 2 ∷ 0 ∷ 1 ∷ 0 ∷ 0x80 ∷ 0x80 ∷ []) (gives (programFile listed listing))
+    ∷ (compiles two-rows ⇒ gives (programFile listed listing))
     -- that program with budget 12 finishes, with 11 it stops at 11
-    ∷ starts (0x0a ∷ 0 ∷ 0x20 ∷ 0 ∷ 2 ∷ 0 ∷ 1 ∷ 0 ∷ 0x80 ∷ 0x80 ∷ []) 12 (gives (1 ∷ 12 ∷ 12 ∷ []))
-    ∷ starts (0x0a ∷ 0 ∷ 0x20 ∷ 0 ∷ 2 ∷ 0 ∷ 1 ∷ 0 ∷ 0x80 ∷ 0x80 ∷ []) 11 (gives (0 ∷ 11 ∷ 11 ∷ []))
+    ∷ (starts two-rows 12 ⇒ gives (1 ∷ 12 ∷ 12 ∷ []))
+    ∷ (starts two-rows 11 ⇒ gives (0 ∷ 11 ∷ 11 ∷ []))
     -- rows 10, 10, 01: refusal 6
-    ∷ writes 3 2 (1 ∷ 0 ∷ 1 ∷ 0 ∷ 0 ∷ 1 ∷ []) (refused 6)
-    ∷ reads (0x0b ∷ 0 ∷ 0x20 ∷ 0 ∷ 3 ∷ 0 ∷ 2 ∷ 0 ∷ 0x80 ∷ 0x80 ∷ 0x40 ∷ []) (refused 6)
+    ∷ (writes 3 2 (1 ∷ 0 ∷ 1 ∷ 0 ∷ 0 ∷ 1 ∷ []) ⇒ refused 6)
+    ∷ (reads too-much ⇒ refused 6)
     -- weights 1, 1, 1 with n = 2: rows 01, 01, 01
-    ∷ builds Plain (1 ∷ 1 ∷ 1 ∷ []) 2 (gives (0 ∷ 1 ∷ 0 ∷ 1 ∷ 0 ∷ 1 ∷ []))
+    ∷ (builds Plain (1 ∷ 1 ∷ 1 ∷ []) 2 ⇒ gives (0 ∷ 1 ∷ 0 ∷ 1 ∷ 0 ∷ 1 ∷ []))
     -- and 11 misses
-    ∷ builds-walks Plain (1 ∷ 1 ∷ 1 ∷ []) 2 (0xc0 ∷ []) (gives [])
+    ∷ (builds-walks Plain (1 ∷ 1 ∷ 1 ∷ []) 2 (0xc0 ∷ []) ⇒ gives [])
     -- weight 5 alone, n = 3: row 111
-    ∷ builds Plain (5 ∷ []) 3 (gives (1 ∷ 1 ∷ 1 ∷ []))
+    ∷ (builds Plain (5 ∷ []) 3 ⇒ gives (1 ∷ 1 ∷ 1 ∷ []))
     -- weights 0, 0: refusal 11
-    ∷ builds Plain (0 ∷ 0 ∷ []) 1 (refused 11)
+    ∷ (builds Plain (0 ∷ 0 ∷ []) 1 ⇒ refused 11)
     ∷ []
 
 -- the row of a walk, or none
@@ -98,25 +125,17 @@ numbersOf : Run → List ℕ
 numbersOf r = cond (r .finished) 1 0 ∷ r .position ∷ r .count ∷ []
 
 -- what the operation comes to
-pub comes : Case → Outcome (List ℕ)
-comes (writes m n entries o) = writeOf m n entries (fileLength m n)
-comes (reads file o) = mapped (λ M. M .entries) (readOf file 16384)
-comes (builds usage weights n o) = buildOf usage weights n (fileLength (length weights) n) >>= λ file. mapped (λ M. M .entries) (matrixOf file)
-comes (walks file string o) = mapped rowOf (walkOf file string)
-comes (builds-walks usage weights n string o) =
+pub comes : Operation → Outcome (List ℕ)
+comes (writes m n entries) = writeOf m n entries (fileLength m n)
+comes (reads file) = mapped (λ M. M .entries) (readOf file 16384)
+comes (builds usage weights n) =
+    buildOf usage weights n (fileLength (length weights) n) >>= λ file. mapped (λ M. M .entries) (matrixOf file)
+comes (walks file string) = mapped rowOf (walkOf file string)
+comes (builds-walks usage weights n string) =
     buildOf usage weights n (fileLength (length weights) n) >>= λ file. mapped rowOf (walkOf file string)
-comes (compiles file o) = compileOf file 1024
-comes (starts file budget o) =
+comes (compiles file) = compileOf file 1024
+comes (starts file budget) =
     compileOf file 1024 >>= λ program. mapped (λ e. numbersOf (e .answer)) (startOf program (0 ∷ []) (replicate 10 0) (0 ∷ 0 ∷ []) budget)
-
-pub must : Case → Outcome (List ℕ)
-must (writes m n entries o) = o
-must (reads file o) = o
-must (builds usage weights n o) = o
-must (walks file string o) = o
-must (builds-walks usage weights n string o) = o
-must (compiles file o) = o
-must (starts file budget o) = o
 
 -- ---- the test
 agrees : Outcome (List ℕ) → Outcome (List ℕ) → Bool
@@ -127,7 +146,7 @@ agrees (gives x) (gives y) = same x y
 
 all-agree : List Case → Bool
 all-agree [] = true
-all-agree (c ∷ cs) = agrees (comes c) (must c) && all-agree cs
+all-agree (c ∷ cs) = agrees (comes (c .operation)) (c .must) && all-agree cs
 
 -- ---- the test is right
 agrees-is : (o q : Outcome (List ℕ)) → agrees o q ≡ true → o ≡ q
@@ -140,16 +159,20 @@ agrees-is (gives x) (gives y) e = ap gives (same-is x y .0 e)
 -- every case of a list comes to what it must
 pub All-come : List Case → Type 0
 All-come [] = Unit {0}
-All-come (c ∷ cs) = (comes c ≡ must c) × All-come cs
+All-come (c ∷ cs) = (comes (c .operation) ≡ c .must) × All-come cs
 
 all-come : (cs : List Case) → all-agree cs ≡ true → All-come cs
 unfolding all-agree All-come
 all-come [] e = tt
 all-come (c ∷ cs) e =
-    let s = both (agrees (comes c) (must c)) (all-agree cs) e in
-    (agrees-is (comes c) (must c) (s .0), all-come cs (s .1))
+    let s = both (agrees (comes (c .operation)) (c .must)) (all-agree cs) e in
+    (agrees-is (comes (c .operation)) (c .must) (s .0), all-come cs (s .1))
 
 -- ---- the table holds
 pub cases-hold : All-come cases
-unfolding listed listing cases comes must all-agree agrees same fieldOf packedBit padded packed spare bit p total headerBytes matrixFile headerOf unpacked bodyOf matrixOf readOf writeOf sum share built buildOf stringsOf rowOf at scan then walk drawn walkOf recordBytes instructionBytes decodeOf sizedOf codeBytes programFile programHeaderOf programHeader programNumbers exec checkOf codeOf instructionOf also startOn runOf bitsToWrite rowBits begin split ifSet mark met marks keep end liveBefore column translation program compiled compileOf weight numbersOf sumTo any number digit blocks upto
+unfolding three-rows too-much one-row two-rows listed listing cases comes all-agree agrees same rowOf numbersOf sumTo any number digit
+    blocks upto fieldOf packedBit padded packed spare bit p total ones-in headerBytes matrixFile headerOf unpacked bodyOf matrixOf readOf
+    writeOf sum share built buildOf stringsOf at scan then walk drawn walkOf recordBytes instructionBytes decodeOf sizedOf codeBytes
+    programFile programHeaderOf programHeader programNumbers exec checkOf codeOf instructionOf also startOn runOf bitsToWrite rowBits
+    ifSet marks liveBefore column translation program compiled compileOf
 cases-hold = all-come cases refl

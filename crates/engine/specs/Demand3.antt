@@ -6,21 +6,21 @@ use mathlib.Core.List.{List}
 use mathlib.Core.Logic.{_↔_, ⊎-elim}
 use native.Mathlib.Omega.{arith}
 use lib.ListN.{getD, replicate, length-replicate, List·getD-eq-default}
-use lib.Seq.{take-length}
+use Rattle.laws.specs.Tests.{lt-or-ge}
 use Rattle.laws.specs.Words.{bitAt}
-use Rattle.laws.specs.Places.{lt-or-ge}
-use Rattle.laws.specs.Lay.{upto-eq, take-is}
 use Rattle.laws.specs.Outcome.{gives, gives-inj}
 use Rattle.files.specs.Matrix.{Matrix, p, total}
 use Rattle.files.specs.Files.{matrixOf}
 use Rattle.files.specs.RoundTrip.{read-accepted, read-write}
-use Rattle.walk.specs.Walk.{sample, Drawn, hit, miss, drawn, answerOf, hits, misses}
+use Rattle.walk.specs.Walk.{sample, drawn, answerOf, hits, misses}
+use Rattle.walk.specs.declared.Drawn.{Drawn}
+use Rattle.walk.specs.declared.Drawn.the-variants.{Hit as hit, Miss as miss}
 use Rattle.walk.specs.Strings.{Bits, strings, count, count-eq}
 use Rattle.walk.specs.Theorems.{hits-row, misses-rest, hit-inside, equal-rows}
 use Rattle.lanes.specs.Slicing.{lanes}
 use Rattle.compiler.specs.Translation.{program, compiled}
 use Rattle.engine.specs.Given.{Choice, Fair, given, says, says-miss}
-use Rattle.engine.specs.Lanewise.{laneBits, lane-draws}
+use Rattle.engine.specs.Lanewise.{lane-draws}
 
 -- ---- answers and walks
 says-hits : (v : ℕ) (d : Drawn) → says v (gives (answerOf d)) ≡ hits v d
@@ -42,20 +42,9 @@ below-rows M s v miss e q = absurd (let z : _≡_ {A = ℕ} 0 1 = cc in omega ar
 -- ---- a matrix file, and lane, other lanes, earlier contents and budget chosen anew for each string of n bits
 module _ (file : List ℕ) (M : Matrix) (e : matrixOf file ≡ gives M) (choose : List ℕ → Choice)
     (fair : (s : List ℕ) → Bits (M .columns) s → Fair (program M) s (choose s)) where
-  carried : (s : List ℕ) → Bits (M .columns) s → laneBits (M .columns) (choose s .inputs) (choose s .lane) ≡ s
-  unfolding program
-  carried s b =
-      upto-eq (M .columns) (λ i. bitAt (getD (choose s .inputs) i 0) (choose s .lane)) (λ i. getD s i 0) (λ i l. fair s b .carries i l) ∙
-      (sym (take-is 0 (M .columns) s (omega (arith, b .long))) ∙ ap (λ (n : ℕ). lib.ListN.take n s) (sym (b .long)) ∙ take-length s)
-
   -- the program gives for each string what the walk draws: sample v on exactly the strings on which the walk hits row v
   pub demand-3-walk : (s : List ℕ) → Bits (M .columns) s → given (compiled M) (choose s) ≡ gives (answerOf (drawn M s))
-  unfolding given
-  demand-3-walk s b =
-      let f = fair s b in
-      lane-draws M (read-accepted file M e) (choose s .inputs) (choose s .registers) (choose s .outputs) (choose s .budget) (choose s .lane) (f .in-word)
-      (f .words) (f .inputs-there) (f .registers-there) (f .outputs-there) (f .enough) ∙
-      ap (λ (l : List ℕ). gives (answerOf (drawn M l))) (carried s b)
+  demand-3-walk s b = lane-draws M (read-accepted file M e) s (b .long) (choose s) (fair s b)
 
   -- sample v is given p_v times, for each v from 0 to m - 1
   pub demand-3-samples : (v : ℕ) → v < M .rows → count (λ s. says v (given (compiled M) (choose s))) (strings (M .columns)) ≡ p M v
@@ -77,15 +66,18 @@ module _ (file : List ℕ) (M : Matrix) (e : matrixOf file ≡ gives M) (choose 
 
 -- ---- two accepted matrices with equal m and n are equal exactly when their compiled programs give each sample equally often
 module _ (file file′ : List ℕ) (M M′ : Matrix) (e : matrixOf file ≡ gives M) (e′ : matrixOf file′ ≡ gives M′) (m : M .rows ≡ M′ .rows)
-    (n : M .columns ≡ M′ .columns) (choose choose′ : List ℕ → Choice) (fair : (s : List ℕ) → Bits (M .columns) s → Fair (program M) s (choose s))
+    (n : M .columns ≡ M′ .columns) (choose choose′ : List ℕ → Choice)
+    (fair : (s : List ℕ) → Bits (M .columns) s → Fair (program M) s (choose s))
     (fair′ : (s : List ℕ) → Bits (M′ .columns) s → Fair (program M′) s (choose′ s)) where
   pub demand-3-equal : (M ≡ M′) ↔
       ((v : ℕ) → v < M .rows → count (λ s. says v (given (compiled M) (choose s))) (strings (M .columns)) ≡
       count (λ s. says v (given (compiled M′) (choose′ s))) (strings (M′ .columns)))
   demand-3-equal =
-      let rows = equal-rows M M′ (read-accepted file M e) (read-accepted file′ M′ e′) m n in (
-        (λ q v l. demand-3-samples file M e choose fair v l ∙ (rows .0 q v l ∙ sym (demand-3-samples file′ M′ e′ choose′ fair′ v (omega arith)))),
-        (λ q. rows .1 (λ v l. sym (demand-3-samples file M e choose fair v l) ∙ (q v l ∙ demand-3-samples file′ M′ e′ choose′ fair′ v (omega arith)))),
+      let rows = equal-rows M M′ (read-accepted file M e) (read-accepted file′ M′ e′) m n in
+      let counts = demand-3-samples file M e choose fair in
+      let counts′ = demand-3-samples file′ M′ e′ choose′ fair′ in (
+        (λ q v l. counts v l ∙ (rows .0 q v l ∙ sym (counts′ v (omega arith)))),
+        (λ q. rows .1 (λ v l. sym (counts v l) ∙ (q v l ∙ counts′ v (omega arith)))),
       )
 
   -- and so are their files
@@ -95,7 +87,8 @@ module _ (file file′ : List ℕ) (M M′ : Matrix) (e : matrixOf file ≡ give
     (λ q. sym (read-write file a M e) ∙ (ap Rattle.files.specs.Files.matrixFile q ∙ read-write file′ a′ M′ e′)),
   )
 
--- ---- there is such a choice for every accepted matrix: lane 0 of words that are the string's bits, nothing but zeros before, and just the budget needed
+-- ---- there is such a choice for every accepted matrix: lane 0 of words that are the string's bits, nothing but zeros before, and just the
+-- budget needed
 bit-zero : (x : ℕ) → bitAt x 0 ≡ x % 2
 unfolding bitAt
 bit-zero x = omega arith
@@ -115,7 +108,8 @@ unfolding program
 plainly-fair M s b =
     record {
       in-word = omega arith;
-      words = λ i. ⊎-elim (λ (l : i < M .columns). omega (arith, b .each i l)) (λ (l : M .columns ≤ i). beyond i l) (lt-or-ge i (M .columns));
+      words =
+          λ i. ⊎-elim (λ (l : i < M .columns). omega (arith, b .each i l)) (λ (l : M .columns ≤ i). beyond i l) (lt-or-ge i (M .columns));
       carries = λ i l. lowest (getD s i 0) (b .each i l);
       inputs-there = omega (arith, b .long);
       registers-there = omega (arith, length-replicate {A = ℕ} (program M .registers) 0);

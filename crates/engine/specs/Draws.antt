@@ -4,13 +4,13 @@ use mathlib.Core.Path.{_≡_, sym, _∙_}
 use mathlib.Core.List.{List}
 use native.Mathlib.Omega.{arith}
 use borrow.Author.Tests.{le-ltb}
-use lib.ListN.{replicate, length-replicate}
+use lib.ListN.{length, replicate, length-replicate}
 use Rattle.laws.specs.Words.{bitAt}
-use Rattle.laws.specs.Lay.{upto}
+use Rattle.laws.specs.Lists.{upto}
 use Rattle.laws.specs.Outcome.{Outcome, gives, _>>=_}
 use Rattle.files.specs.Matrix.{Matrix}
 use Rattle.files.specs.Files.{matrixOf}
-use Rattle.files.specs.Strings.{stringsOf}
+use Rattle.fields.specs.Strings.{stringsOf}
 use Rattle.lanes.specs.Slicing.{lanes, slice-gives}
 use Rattle.lanes.specs.Samples.{code, signedCode}
 use Rattle.compiler.specs.Translation.{program, compiled}
@@ -18,14 +18,23 @@ use Rattle.machine.specs.Runs.{startOf}
 use Rattle.drawing.specs.Drawing.{drawnWith, drawOf, drawSignedOf}
 use Rattle.engine.specs.Demand2.{compiled-is-accepted}
 use Rattle.engine.specs.Batches.{slicedWords, drawnAt, batch-samples, batch-signed}
-use Rattle.compiler.specs.Starting.{inputs-are}
+use Rattle.compiler.specs.Compiled.{inputs-are}
 
-module _ (file : List ℕ) (M : Matrix) (e : matrixOf file ≡ gives M) (strings : List ℕ) (sound : stringsOf lanes (M .columns) strings ≡ gives tt) (room : ℕ)
-    (space : lanes ≤ room) where
+-- words of the engine's own, as many as are asked for
+own : (n : ℕ) → n ≤ length {A = ℕ} (replicate n 0)
+own n = omega (arith, length-replicate {A = ℕ} n 0)
+
+module _ (file : List ℕ) (M : Matrix) (e : matrixOf file ≡ gives M) (strings : List ℕ)
+    (sound : stringsOf lanes (M .columns) strings ≡ gives tt) (room : ℕ) (space : lanes ≤ room) where
+  abbrev registers : List ℕ
+  registers = replicate (program M .registers) 0
+
+  abbrev outputs : List ℕ
+  outputs = replicate (program M .outputs) 0
+
   -- a drawing is a start on the sliced strings, then the outputs read
   drawing-is : {A : Type 0} (read : List ℕ → Outcome A) → drawnWith (compiled M) strings room read ≡
-      (startOf (compiled M) (slicedWords (M .columns) strings) (replicate (program M .registers) 0) (replicate (program M .outputs) 0) (program M .count) >>=
-      (λ x. read (x .state .outputs)))
+      (startOf (compiled M) (slicedWords (M .columns) strings) registers outputs (program M .count) >>= (λ x. read (x .state .outputs)))
   unfolding drawnWith
   drawing-is read =
       rw (
@@ -39,13 +48,13 @@ module _ (file : List ℕ) (M : Matrix) (e : matrixOf file ≡ gives M) (strings
   pub draw-walks : drawOf (compiled M) strings room ≡ gives (upto lanes (λ j. code (drawnAt M strings j)))
   draw-walks =
       drawing-is _ ∙
-      batch-samples file M e strings (replicate (program M .registers) 0) (replicate (program M .outputs) 0) (program M .count) room
-      (omega (arith, length-replicate {A = ℕ} (program M .registers) 0)) (omega (arith, length-replicate {A = ℕ} (program M .outputs) 0)) (omega arith) space
+      batch-samples file M e strings registers outputs (program M .count) room (own (program M .registers)) (own (program M .outputs))
+      (omega arith) space
 
   -- signed: negated where bit j of the sign word is set, and 32,767 for a miss
   pub draw-signed-walks : (sign : ℕ) →
       drawSignedOf (compiled M) strings sign room ≡ gives (upto lanes (λ j. signedCode (bitAt sign j) (drawnAt M strings j)))
   draw-signed-walks sign =
       drawing-is _ ∙
-      batch-signed file M e strings (replicate (program M .registers) 0) (replicate (program M .outputs) 0) (program M .count) room
-      (omega (arith, length-replicate {A = ℕ} (program M .registers) 0)) (omega (arith, length-replicate {A = ℕ} (program M .outputs) 0)) (omega arith) space sign
+      batch-signed file M e strings registers outputs (program M .count) room (own (program M .registers)) (own (program M .outputs))
+      (omega arith) space sign

@@ -1,94 +1,104 @@
--- A lane of a compiled program's words gives what the walk draws on that lane's bits. Assumes nothing.
-use Prim.Native.Nat.{ℕ, zero, suc, _+_, _-_, _*_, _^_, _≤_, _<_}
-use mathlib.Core.Path.{_≡_, refl, sym, ap, _∙_}
-use mathlib.Core.Bool.{cond}
+-- A lane of a compiled program's words gives what the walk draws on the string that the lane carries. Assumes nothing.
+use Prim.Native.Nat.{ℕ, _+_, _-_, _^_}
+use mathlib.Core.Path.{_≡_, sym, ap, _∙_}
 use mathlib.Core.List.{List, map}
-use native.Mathlib.Nat.{add-comm}
 use native.Mathlib.Omega.{arith}
-use lib.Dec.{eqb}
-use lib.ListN.{length, getD, length-replicate, length-map, List·getD-map}
-use Rattle.laws.specs.Sums.{sumTo, sum-eq}
-use Rattle.laws.specs.Words.{bitAt, pack, bitAt-lt, bitAt-zero}
-use Rattle.laws.specs.Lay.{upto, upto-eq}
+use lib.ListN.{length, take, getD, length-replicate, length-map, List·getD-map}
+use lib.Seq.{take-length}
+use Rattle.laws.specs.Words.{bitAt, bitAt-lt, bitAt-zero}
+use Rattle.laws.specs.Lists.{upto, upto-eq, take-is}
 use Rattle.laws.specs.Outcome.{gives, mapped}
 use Rattle.files.specs.Matrix.{Matrix, Accepted}
-use Rattle.machine.specs.Meaning.{words, bits, exec-long}
+use Rattle.machine.specs.Meaning.{wordGates, bitGates, exec-long}
 use Rattle.machine.specs.Runs.{Ended, startOf, startOn}
 use Rattle.machine.specs.LaneLaw.{lane, lane-start, mapEnded}
-use Rattle.walk.specs.Walk.{sample, missed, drawn, answerOf}
-use Rattle.lanes.specs.Slicing.{lanes}
-use Rattle.lanes.specs.Samples.{sampleOf, hits, spelled}
+use Rattle.walk.specs.Walk.{drawn, answerOf}
+use Rattle.lanes.specs.Samples.{sampleOf, laneHits, spelled}
+use Rattle.compiler.specs.Compiled.{inputs-are, outputs-are}
 use Rattle.compiler.specs.Translation.{translation, program, compiled, rowBits}
-use Rattle.compiler.specs.Computes.{givenBy, carried}
-use Rattle.compiler.specs.Starting.{whole, fresh, start-compiled, start-gives}
-
--- the bits of lane j, one for each of the first n words
-abbrev pub laneBits : ℕ → List ℕ → ℕ → List ℕ
-laneBits n inputs j = upto n (λ i. bitAt (getD inputs i 0) j)
+use Rattle.compiler.specs.Computes.{givenBy, laneInputs}
+use Rattle.compiler.specs.Computes.{start-compiled, start-gives}
+use Rattle.machine.specs.Calls.{cleared}
+use Rattle.engine.specs.Given.{Choice, Fair, given}
 
 -- ---- a lane, projected and read
 pub getD-lane : (j : ℕ) (xs : List ℕ) (i : ℕ) → getD (map (lane j) xs) i 0 ≡ bitAt (getD xs i 0) j
 getD-lane j xs i = ap (getD (map (lane j) xs) i) (sym (bitAt-zero j)) ∙ List·getD-map (lane j) xs i 0
 
-pack-sum : (k : ℕ) (f : ℕ → ℕ) → pack k f ≡ sumTo k (λ t. f t * 2 ^ t)
-unfolding pack sumTo
-pack-sum zero f = refl
-pack-sum (suc k) f = omega (arith, pack-sum k f)
-
 -- the sample that a lane of the output words spells is the one that the lane's bits give
-lane-given : (outputs : List ℕ) (j k : ℕ) → length outputs ≡ 1 + k → sampleOf outputs j ≡ givenBy k (λ o. bitAt (getD outputs o 0) j)
-unfolding sampleOf hits spelled givenBy
+lane-given : (outputs : List ℕ) (j k : ℕ) → length outputs ≡ 1 + k →
+    sampleOf outputs j ≡ givenBy k (λ o. bitAt (getD outputs o 0) j)
+unfolding sampleOf laneHits spelled givenBy
 lane-given outputs j k e =
     let m : length outputs - 1 ≡ k = omega arith in
-    let s : sumTo k (λ t. bitAt (getD outputs (t + 1) 0) j * 2 ^ t) ≡ sumTo k (λ t. bitAt (getD outputs (1 + t) 0) j * 2 ^ t) =
-    sum-eq k (λ t. bitAt (getD outputs (t + 1) 0) j * 2 ^ t) (λ t. bitAt (getD outputs (1 + t) 0) j * 2 ^ t)
-    (λ t l. ap (λ (i : ℕ). bitAt (getD outputs i 0) j * 2 ^ t) (add-comm t 1)) in
-    rw m (ap (λ (x : ℕ). cond (eqb (bitAt (getD outputs 0 0) j) 1) (sample x) missed) (pack-sum k (λ t. bitAt (getD outputs (t + 1) 0) j) ∙ s))
+    rw m
 
 given-eq : (k : ℕ) (f g : ℕ → ℕ) → ((o : ℕ) → f o ≡ g o) → givenBy k f ≡ givenBy k g
 given-eq k f g e = ap (givenBy k) (mathlib.Core.Path.fun-ext e)
 
--- ---- the theorem
-module _ (M : Matrix) (a : Accepted M) (inputs registers outputs : List ℕ) (budget j : ℕ) (jl : j < lanes) (small : (i : ℕ) → getD inputs i 0 < 2 ^ lanes)
-    (i : program M .inputs ≤ length inputs) (r : program M .registers ≤ length registers) (o : program M .outputs ≤ length outputs)
-    (enough : program M .count ≤ budget) where
-  -- where the start ends
-  unfoldable pub ended : Ended ℕ
-  ended = whole words (translation M) inputs budget (fresh words M)
+-- a string of n bits, one by one
+string-is : (n : ℕ) (s : List ℕ) → length s ≡ n → upto n (λ i. getD s i 0) ≡ s
+string-is n s e = sym (take-is 0 n s (omega arith)) ∙ (ap (λ (k : ℕ). take k s) (sym e) ∙ take-length s)
 
-  pub start-is : startOf (compiled M) inputs registers outputs budget ≡ gives ended
-  unfolding ended
-  start-is = start-compiled words M a inputs registers outputs budget i r o enough
-
-  columns-are : program M .inputs ≡ M .columns
-  unfolding program
-  columns-are = refl
-
-  outputs-are : program M .outputs ≡ 1 + rowBits (M .rows)
-  unfolding program
-  outputs-are = refl
-
+-- ---- a start of a compiled program on a fair choice
+-- where it ends: with the hit and the bits of a row number in its outputs
+pub record Starts (M : Matrix) (c : Choice) : Type 0 where
+  pub ended : Ended ℕ
+  pub is : startOf (compiled M) (c .inputs) (c .registers) (c .outputs) (c .budget) ≡ gives ended
   pub long : length (ended .state .outputs) ≡ 1 + rowBits (M .rows)
-  unfolding ended
-  long = exec-long words inputs (translation M) (fresh words M) .1 ∙ (length-replicate {A = ℕ} (program M .outputs) 0 ∙ outputs-are)
+
+module _ (M : Matrix) (a : Accepted M) (s : List ℕ) (whole-string : length s ≡ M .columns) (c : Choice) (f : Fair (program M) s c) where
+  pub starts : Starts M c
+  starts =
+      record {
+        ended = _;
+        is =
+            start-compiled wordGates M a (c .inputs) (c .registers) (c .outputs) (c .budget) (f .inputs-there) (f .registers-there)
+            (f .outputs-there) (f .enough);
+        long =
+            exec-long wordGates (c .inputs) (translation M) (cleared wordGates (program M)) .1 ∙
+            (length-replicate {A = ℕ} (program M .outputs) 0 ∙ outputs-are M);
+      }
+
+  abbrev left : List ℕ
+  left = starts .ended .state .outputs
 
   -- the lane's start, with bits for words
-  lane-is : startOn bits (compiled M) (map (lane j) inputs) (map (lane j) registers) (map (lane j) outputs) budget ≡ gives (mapEnded (lane j) ended)
-  lane-is = sym (lane-start j jl inputs small (compiled M) registers outputs budget) ∙ ap (mapped (mapEnded (lane j))) start-is
+  abbrev projected : List ℕ → List ℕ
+  projected = map (lane (c .lane))
 
-  carried-is : carried M (map (lane j) inputs) ≡ laneBits (M .columns) inputs j
-  carried-is = upto-eq (M .columns) (λ c. getD (map (lane j) inputs) c 0) (λ c. bitAt (getD inputs c 0) j) (λ c l. getD-lane j inputs c)
+  lane-is : startOn bitGates (compiled M) (projected (c .inputs)) (projected (c .registers)) (projected (c .outputs)) (c .budget) ≡
+      gives (mapEnded (lane (c .lane)) (starts .ended))
+  lane-is =
+      sym (lane-start (c .lane) (f .in-word) (c .inputs) (f .words) (compiled M) (c .registers) (c .outputs) (c .budget)) ∙
+      ap (mapped (mapEnded (lane (c .lane)))) (starts .is)
 
-  -- lane j of the outputs gives what the walk draws on lane j's bits
-  pub lane-draws : mapped (λ e. sampleOf (e .state .outputs) j) (startOf (compiled M) inputs registers outputs budget) ≡
-      gives (answerOf (drawn M (laneBits (M .columns) inputs j)))
-  lane-draws =
-      rw start-is
-      (ap gives
-      (lane-given (ended .state .outputs) j (rowBits (M .rows)) long ∙
-      (given-eq (rowBits (M .rows)) (λ o. bitAt (getD (ended .state .outputs) o 0) j) (λ o. getD (map (lane j) (ended .state .outputs)) o 0)
-      (λ o. sym (getD-lane j (ended .state .outputs) o)) ∙
-      (start-gives M a (map (lane j) inputs) (map (lane j) registers) (map (lane j) outputs) budget
-      (λ c l. rw (getD-lane j inputs c) (omega (arith, bitAt-lt (getD inputs c 0) j))) (rw (length-map inputs (lane j)) (omega (arith, columns-are)))
-      (rw (length-map registers (lane j)) r) (rw (length-map outputs (lane j)) o) enough (mapEnded (lane j) ended) lane-is ∙
-      ap (λ (l : List ℕ). answerOf (drawn M l)) carried-is))))
+  lane-carries : laneInputs M (projected (c .inputs)) ≡ s
+  unfolding program
+  lane-carries =
+      upto-eq (M .columns) (λ i. getD (projected (c .inputs)) i 0) (λ i. getD s i 0)
+      (λ i l. getD-lane (c .lane) (c .inputs) i ∙ f .carries i l) ∙
+      string-is (M .columns) s whole-string
+
+  -- the lane's bits of the outputs give what the walk draws on the string
+  bits-give : givenBy (rowBits (M .rows)) (λ o. getD (projected left) o 0) ≡ answerOf (drawn M s)
+  bits-give =
+      start-gives M a (projected (c .inputs)) (projected (c .registers)) (projected (c .outputs)) (c .budget)
+      (λ i l. rw (getD-lane (c .lane) (c .inputs) i) (omega (arith, bitAt-lt (getD (c .inputs) i 0) (c .lane))))
+      (rw (length-map (c .inputs) (lane (c .lane))) (omega (arith, inputs-are M, f .inputs-there)))
+      (rw (length-map (c .registers) (lane (c .lane))) (f .registers-there))
+      (rw (length-map (c .outputs) (lane (c .lane))) (f .outputs-there)) (f .enough)
+      (mapEnded (lane (c .lane)) (starts .ended)) lane-is ∙
+      ap (λ (l : List ℕ). answerOf (drawn M l)) lane-carries
+
+  -- so does the lane of the output words
+  pub lane-says : sampleOf left (c .lane) ≡ answerOf (drawn M s)
+  lane-says =
+      lane-given left (c .lane) (rowBits (M .rows)) (starts .long) ∙
+      (given-eq (rowBits (M .rows)) (λ o. bitAt (getD left o 0) (c .lane)) (λ o. getD (projected left) o 0)
+      (λ o. sym (getD-lane (c .lane) left o)) ∙
+      bits-give)
+
+  pub lane-draws : given (compiled M) c ≡ gives (answerOf (drawn M s))
+  unfolding given
+  lane-draws = rw (starts .is) (ap gives lane-says)

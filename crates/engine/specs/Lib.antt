@@ -1,5 +1,4 @@
 -- Definitions first, then the demands and what follows from them, then the table of cases.
-pub mod Calls
 pub mod Given
 pub mod Lanewise
 pub mod Demand2

@@ -1,81 +1,76 @@
 -- The ways through the checks of a matrix file, and what passing them says. Assumes nothing.
-use Prim.Native.Nat.{ℕ, _+_, _*_, _^_, _≤_, _<_}
-use mathlib.Core.Path.{_≡_, refl, sym, ap, _∙_, subst}
+use Prim.Native.Nat.{ℕ, _+_, _-_, _*_, _/_, _^_, _≤_, _<_}
+use mathlib.Core.Path.{_≡_, refl, ap, _∙_, subst}
 use mathlib.Core.Bool.{Bool, true, false, not}
 use mathlib.Core.List.{List}
 use native.Mathlib.Omega.{arith}
 use borrow.Author.Tests.{lt-ltb, le-ltb, eq-eqb, ne-eqb, ltb-false, leb-true, leb-false, eqb-true, not-false}
 use lib.Dec.{eqb, ltb, leb}
-use lib.ListN.{length, drop}
-use Rattle.laws.specs.Tests.{neither}
-use Rattle.laws.specs.Sums.{any, sum-eq}
+use lib.ListN.{length, take, drop, length-drop}
+use Rattle.laws.specs.Sums.{sum-eq}
 use Rattle.laws.specs.Digits.{number, number-shift}
-use Rattle.laws.specs.Lay.{upto, getD-blocks, getD-upto, length-upto}
+use Rattle.laws.specs.Lists.{row-end, rest-is}
 use Rattle.laws.specs.Outcome.{Outcome, refused, gives, refuse, _>>_, _>>=_, passed, bound, mapped, mapped-gives, mapped-refused, gives-inj}
-use Rattle.files.specs.Fields.{fieldOf, width, bitOf, packedBit, spare}
-use Rattle.files.specs.Matrix.{Matrix, Sizes, sizes, bit, p, total, outside, most-rows, most-columns}
-use Rattle.files.specs.Live.{total-from}
+use Rattle.fields.specs.Limits.{most-columns, inside, within}
+use Rattle.fields.specs.Fields.{fieldOf, width, bitOf}
+use Rattle.fields.specs.Strings.{anySpare, stringsOf, strings-whole}
+use Rattle.files.specs.Matrix.{Matrix, Sizes, sizes, sizesOutside, bit, p, total, most-rows}
+use Rattle.files.specs.Matrices.{tabled-bit}
+use Rattle.files.specs.Sizes.{sizes-refuse}
+use Rattle.files.specs.Live.{total-from, rowsFit}
 use Rattle.files.specs.Files.{fileLength, headerOf, bodyOf, matrixOf, readOf, unpacked, Whole}
 
--- ---- a size within its limit, or not
-pub inside : (most x : ℕ) → 1 ≤ x → x ≤ most → outside most x ≡ false
-inside most x a b = rw (le-ltb x 1 a, le-ltb most x b)
-
-pub below : (most x : ℕ) → x < 1 → outside most x ≡ true
-below most x a = rw (lt-ltb x 1 a)
-
-pub above : (most x : ℕ) → 1 ≤ x → most < x → outside most x ≡ true
-above most x a b = rw (le-ltb x 1 a, lt-ltb most x b)
-
-pub within : (most x : ℕ) → outside most x ≡ false → (1 ≤ x) × (x ≤ most)
-within most x e =
-    let s = neither (ltb x 1) (ltb most x) e in
-    (ltb-false x 1 (s .0), ltb-false most x (s .1))
-
--- ---- the header: what the fields are, and how far it came
-module _ (file : List ℕ) (len kind m n : ℕ) (is-len : len ≡ fieldOf file 0) (is-kind : kind ≡ fieldOf file 2) (is-m : m ≡ fieldOf file 4) (is-n : n ≡ fieldOf file 6) where
-  pub header-cut : 8 ≤ length file → length file < len → refused 1 ≡ headerOf file
+-- ---- the header: how far it came
+module _ (file : List ℕ) where
+  pub header-short : length file < 8 → refused 1 ≡ headerOf file
   unfolding headerOf
-  header-cut a b = rw (le-ltb (length file) 8 a, lt-ltb (length file) (fieldOf file 0) (omega arith))
+  header-short a = rw (lt-ltb (length file) 8 a)
 
-  pub header-kind : 8 ≤ length file → len ≤ length file → (kind ≡ 32 → ⊥) → refused 2 ≡ headerOf file
-  unfolding headerOf
-  header-kind a b k = rw (le-ltb (length file) 8 a, le-ltb (length file) (fieldOf file 0) (omega arith), ne-eqb (fieldOf file 2) 32 (λ e. k (is-kind ∙ e)))
-
-  module _ (a : 8 ≤ length file) (b : len ≤ length file) (k : kind ≡ 32) where
-    -- past shortness and kind
-    past-kind : headerOf file ≡
-        (refuse 3 (outside most-rows (fieldOf file 4)) >> (refuse 3 (outside most-columns (fieldOf file 6)) >>
-        (refuse 4 (not (eqb (fieldOf file 0) (fileLength (fieldOf file 4) (fieldOf file 6)))) >>
-        (refuse 4 (not (eqb (length file) (fieldOf file 0))) >>
-        gives (record { rows = fieldOf file 4; columns = fieldOf file 6 })))))
+  module _ (a : 8 ≤ length file) where
+    pub header-cut : length file < fieldOf file 0 → refused 1 ≡ headerOf file
     unfolding headerOf
-    past-kind = rw (le-ltb (length file) 8 a, le-ltb (length file) (fieldOf file 0) (omega arith), eq-eqb (fieldOf file 2) 32 (omega arith))
+    header-cut b = rw (le-ltb (length file) 8 a, lt-ltb (length file) (fieldOf file 0) b)
 
-    pub header-rows : outside most-rows m ≡ true → refused 3 ≡ headerOf file
-    header-rows r = sym (past-kind ∙ rw (← is-m, r))
+    module _ (b : fieldOf file 0 ≤ length file) where
+      pub header-kind : (fieldOf file 2 ≡ 32 → ⊥) → refused 2 ≡ headerOf file
+      unfolding headerOf
+      header-kind k = rw (le-ltb (length file) 8 a, le-ltb (length file) (fieldOf file 0) b, ne-eqb (fieldOf file 2) 32 k)
 
-    pub header-columns : outside most-rows m ≡ false → outside most-columns n ≡ true → refused 3 ≡ headerOf file
-    header-columns r c = sym (past-kind ∙ rw (← is-m, r, ← is-n, c))
+      -- past shortness and kind
+      module _ (k : fieldOf file 2 ≡ 32) (m n : ℕ) (is-m : m ≡ fieldOf file 4) (is-n : n ≡ fieldOf file 6) where
+        past-kind : headerOf file ≡
+            (refuse 3 (sizesOutside m n) >> (refuse 4 (not (eqb (fieldOf file 0) (fileLength m n))) >>
+            (refuse 4 (not (eqb (length file) (fieldOf file 0))) >> gives (record { rows = m; columns = n }))))
+        unfolding headerOf
+        past-kind =
+            rw (is-m, is-n, le-ltb (length file) 8 a, le-ltb (length file) (fieldOf file 0) b, eq-eqb (fieldOf file 2) 32 k)
+            (sizes-refuse (fieldOf file 4) (fieldOf file 6) _)
 
-    pub header-length : outside most-rows m ≡ false → outside most-columns n ≡ false → (len ≡ fileLength m n → ⊥) → refused 4 ≡ headerOf file
-    header-length r c l = sym (past-kind ∙ rw (← is-m, r, ← is-n, c, ← is-len, ne-eqb len (fileLength m n) l))
+        pub header-sizes : sizesOutside m n ≡ true → refused 3 ≡ headerOf file
+        header-sizes s = rw (past-kind, s)
 
-    pub header-left : outside most-rows m ≡ false → outside most-columns n ≡ false → len ≡ fileLength m n → (length file ≡ len → ⊥) → refused 4 ≡ headerOf file
-    header-left r c l e = sym (past-kind ∙ rw (← is-m, r, ← is-n, c, ← is-len, eq-eqb len (fileLength m n) l, ne-eqb (length file) len e))
+        module _ (s : sizesOutside m n ≡ false) where
+          pub header-length : (fieldOf file 0 ≡ fileLength m n → ⊥) → refused 4 ≡ headerOf file
+          header-length l = rw (past-kind, s, ne-eqb (fieldOf file 0) (fileLength m n) l)
 
-    pub header-gives : outside most-rows m ≡ false → outside most-columns n ≡ false → len ≡ fileLength m n → length file ≡ len →
-        gives (record { rows = m; columns = n }) ≡ headerOf file
-    header-gives r c l e = sym (past-kind ∙ rw (← is-m, r, ← is-n, c, ← is-len, eq-eqb len (fileLength m n) l, eq-eqb (length file) len e))
+          module _ (l : fieldOf file 0 ≡ fileLength m n) where
+            pub header-left : (length file ≡ fieldOf file 0 → ⊥) → refused 4 ≡ headerOf file
+            header-left e = rw (past-kind, s, eq-eqb (fieldOf file 0) (fileLength m n) l, ne-eqb (length file) (fieldOf file 0) e)
 
-pub header-short : (file : List ℕ) → length file < 8 → refused 1 ≡ headerOf file
+            pub header-gives : length file ≡ fieldOf file 0 → gives (record { rows = m; columns = n }) ≡ headerOf file
+            header-gives e = rw (past-kind, s, eq-eqb (fieldOf file 0) (fileLength m n) l, eq-eqb (length file) (fieldOf file 0) e)
+
+-- what a header that passes says: the file is whole, and its fields are these
+pub record Header (file : List ℕ) (s : Sizes) : Type 0 where
+  pub sized : Whole file s
+  pub length-is : fieldOf file 0 ≡ fileLength (s .rows) (s .columns)
+  pub kind-is : fieldOf file 2 ≡ 32
+  pub rows-is : fieldOf file 4 ≡ s .rows
+  pub columns-is : fieldOf file 6 ≡ s .columns
+
+pub header-says : (file : List ℕ) (s : Sizes) → headerOf file ≡ gives s → Header file s
 unfolding headerOf
-header-short file a = rw (lt-ltb (length file) 8 a)
-
--- what a header that passes says
-pub header-whole : (file : List ℕ) (s : Sizes) → headerOf file ≡ gives s → Whole file s
-unfolding headerOf
-header-whole file s e =
+header-says file s e =
     let c1 = passed 1 (ltb (length file) 8) _ s e in
     let c2 = passed 1 (ltb (length file) (fieldOf file 0)) _ s (c1 .1) in
     let c3 = passed 2 (not (eqb (fieldOf file 2) 32)) _ s (c2 .1) in
@@ -85,36 +80,24 @@ header-whole file s e =
     let c7 = passed 4 _ _ s (c6 .1) in
     let r = within most-rows (fieldOf file 4) (c4 .0) in
     let c = within most-columns (fieldOf file 6) (c5 .0) in
-    let l = eqb-true (fieldOf file 0) (fileLength (fieldOf file 4) (fieldOf file 6)) (not-false _ (c6 .0)) in
-    let e = eqb-true (length file) (fieldOf file 0) (not-false _ (c7 .0)) in
-    subst (Whole file) (gives-inj (c7 .1)) (record { some-rows = r .0; few-rows = r .1; some-columns = c .0; few-columns = c .1; long = e ∙ l })
-
--- and its fields
-pub header-fields : (file : List ℕ) (s : Sizes) → headerOf file ≡ gives s →
-    (fieldOf file 0 ≡ fileLength (s .rows) (s .columns)) × (fieldOf file 2 ≡ 32) × (fieldOf file 4 ≡ s .rows) × (fieldOf file 6 ≡ s .columns)
-unfolding headerOf
-header-fields file s e =
-    let c1 = passed 1 (ltb (length file) 8) _ s e in
-    let c2 = passed 1 (ltb (length file) (fieldOf file 0)) _ s (c1 .1) in
-    let c3 = passed 2 (not (eqb (fieldOf file 2) 32)) _ s (c2 .1) in
-    let c4 = passed 3 (outside most-rows (fieldOf file 4)) _ s (c3 .1) in
-    let c5 = passed 3 (outside most-columns (fieldOf file 6)) _ s (c4 .1) in
-    let c6 = passed 4 _ _ s (c5 .1) in
-    let c7 = passed 4 (not (eqb (length file) (fieldOf file 0))) _ s (c6 .1) in
     let k = eqb-true (fieldOf file 2) 32 (not-false _ (c3 .0)) in
     let l = eqb-true (fieldOf file 0) (fileLength (fieldOf file 4) (fieldOf file 6)) (not-false _ (c6 .0)) in
-    let g = gives-inj (c7 .1) in
-    (l ∙ ap (λ (t : Sizes). fileLength (t .rows) (t .columns)) g, k, ap (λ (t : Sizes). t .rows) g, ap (λ (t : Sizes). t .columns) g)
+    let e = eqb-true (length file) (fieldOf file 0) (not-false _ (c7 .0)) in
+    subst (Header file) (gives-inj (c7 .1))
+    (record {
+      sized = record { some-rows = r .0; few-rows = r .1; some-columns = c .0; few-columns = c .1; long = e ∙ l };
+      length-is = l;
+      kind-is = k;
+      rows-is = refl;
+      columns-is = refl;
+    })
 
 -- ---- the rows: what the live test and the spare bits say of the matrix
 -- entry by entry, the matrix of packed rows is those rows
 pub unpacked-bit : (bytes : List ℕ) (s : Sizes) (v c : ℕ) → v < s .rows → c < s .columns →
     bit (unpacked bytes s) v c ≡ bitOf bytes (v * width (s .columns)) c
-unfolding bit unpacked
-unpacked-bit bytes s v c h l =
-    getD-blocks (s .columns) (λ v. upto (s .columns) (bitOf bytes (v * width (s .columns)))) (λ v. length-upto (s .columns) (bitOf bytes (v * width (s .columns))))
-    (s .rows) v c 0 h l ∙
-    getD-upto (s .columns) (bitOf bytes (v * width (s .columns))) c 0 l
+unfolding unpacked
+unpacked-bit bytes s = tabled-bit (s .rows) (s .columns) (λ v. bitOf bytes (v * width (s .columns)))
 
 -- T over bits that agree with the matrix
 pub total-is : (M : Matrix) (f : ℕ → ℕ → ℕ) → ((v c : ℕ) → v < M .rows → c < M .columns → bit M v c ≡ f v c) →
@@ -132,44 +115,53 @@ not-above t x = go (leb t x) refl
     go false e = lt-ltb x t (leb-false t x e)
 
 -- the live test of the packed rows is refusal 6's
-pub live-sum : (bytes : List ℕ) (s : Sizes) (w : ℕ) (r : Bool) → w ≡ width (s .columns) →
-    r ≡ leb (total-from (λ v. packedBit 8 bytes (v * w)) (s .rows) 0 (s .columns)) (2 ^ s .columns) →
-    ltb (2 ^ s .columns) (total (unpacked bytes s)) ≡ not r
+pub live-sum : (bytes : List ℕ) (s : Sizes) (w : ℕ) → w ≡ width (s .columns) →
+    ltb (2 ^ s .columns) (total (unpacked bytes s)) ≡ not (rowsFit bytes 8 w (s .rows) (s .columns))
 unfolding unpacked
-live-sum bytes s w r e q =
-    let t : total (unpacked bytes s) ≡ total-from (λ v. packedBit 8 bytes (v * w)) (s .rows) 0 (s .columns) =
-    rw e (total-is (unpacked bytes s) (λ v. bitOf bytes (v * width (s .columns))) (unpacked-bit bytes s)) in
-    rw (t, q) (not-above (total-from (λ v. packedBit 8 bytes (v * w)) (s .rows) 0 (s .columns)) (2 ^ s .columns))
+live-sum bytes s w e =
+    rw (e, total-is (unpacked bytes s) (λ v. bitOf bytes (v * width (s .columns))) (unpacked-bit bytes s))
+    (not-above (total-from (λ v. bitOf bytes (v * width (s .columns))) (s .rows) 0 (s .columns)) (2 ^ s .columns))
 
-module _ (file : List ℕ) (s : Sizes) where
-  pub body-spare : any (s .rows) (λ v. spare (drop 8 file) (s .columns) (v * width (s .columns))) ≡ true → refused 5 ≡ mapped sizes (bodyOf file s)
+module _ (file : List ℕ) (s : Sizes) (w : Whole file s) where
+  -- the rows are strings that are all there, so that of their refusals 5 alone is left
+  body-is : bodyOf file s ≡
+      (stringsOf (s .rows) (s .columns) (drop 8 file) >>
+      (refuse 6 (ltb (2 ^ s .columns) (total (unpacked (drop 8 file) s))) >> gives (unpacked (drop 8 file) s)))
   unfolding bodyOf
-  body-spare a = rw a
+  body-is =
+      rw (strings-whole (s .rows) (s .columns) (drop 8 file) (inside most-columns (s .columns) (w .some-columns) (w .few-columns))
+      (rw (length-drop 8 file) (omega (arith, w .long))))
 
-  pub body-sum : any (s .rows) (λ v. spare (drop 8 file) (s .columns) (v * width (s .columns))) ≡ false →
-      ltb (2 ^ s .columns) (total (unpacked (drop 8 file) s)) ≡ true → refused 6 ≡ mapped sizes (bodyOf file s)
-  unfolding bodyOf
-  body-sum a b = rw (a, b)
+  -- byte by byte
+  pub row-bytes : (b : ℕ) → b ≡ width (s .columns) → (v c : ℕ) → v < s .rows → c < s .columns →
+      c / 8 + v * b < length (take (length file - 8) (drop 8 file))
+  row-bytes b e v c h l =
+      rw (rest-is, length-drop) (omega (arith, row-end {size = length file - 8} b (width (s .columns)) h e (omega (arith, w .long))))
 
-  pub body-gives : any (s .rows) (λ v. spare (drop 8 file) (s .columns) (v * width (s .columns))) ≡ false →
-      ltb (2 ^ s .columns) (total (unpacked (drop 8 file) s)) ≡ false → gives s ≡ mapped sizes (bodyOf file s)
-  unfolding bodyOf unpacked
-  body-gives a b = rw (a, b)
+  pub body-refused : (n : ℕ) → refused n ≡ stringsOf (s .rows) (s .columns) (drop 8 file) → refused n ≡ mapped sizes (bodyOf file s)
+  body-refused n e = rw (body-is, ← e)
+
+  pub body-sum : (b : Bool) (w : ℕ) → gives tt ≡ stringsOf (s .rows) (s .columns) (drop 8 file) → w ≡ width (s .columns) →
+      not (rowsFit (drop 8 file) 8 w (s .rows) (s .columns)) ≡ b → (refuse 6 b >> gives s) ≡ mapped sizes (bodyOf file s)
+  unfolding unpacked
+  body-sum true w e q t = rw (body-is, ← e, live-sum (drop 8 file) s w q ∙ t)
+  body-sum false w e q t = rw (body-is, ← e, live-sum (drop 8 file) s w q ∙ t)
 
 -- ---- the file: from its header on
 pub file-refused : (file : List ℕ) (n : ℕ) → refused n ≡ headerOf file → refused n ≡ mapped sizes (matrixOf file)
 unfolding matrixOf
 file-refused file n e = rw (← e)
 
-pub file-body : (file : List ℕ) (s : Sizes) (o : Outcome Sizes) → gives s ≡ headerOf file → o ≡ mapped sizes (bodyOf file s) → o ≡ mapped sizes (matrixOf file)
+pub file-body : (file : List ℕ) (s : Sizes) (o : Outcome Sizes) → gives s ≡ headerOf file → o ≡ mapped sizes (bodyOf file s) →
+    o ≡ mapped sizes (matrixOf file)
 unfolding matrixOf
 file-body file s o e q = rw (← e) q
 
 -- what an accepted file says: its header, its spare bits, T, and that it is the matrix of its rows
 pub record Read (file : List ℕ) (M : Matrix) : Type 0 where
-  pub whole : Whole file (sizes M)
+  pub sized : Whole file (sizes M)
   pub header : headerOf file ≡ gives (sizes M)
-  pub no-spare : any (M .rows) (λ v. spare (drop 8 file) (M .columns) (v * width (M .columns))) ≡ false
+  pub no-spare : anySpare (M .rows) (M .columns) (drop 8 file) ≡ false
   pub sum : total M ≤ 2 ^ M .columns
   pub is : M ≡ unpacked (drop 8 file) (sizes M)
 
@@ -181,11 +173,11 @@ matrix-read file M e =
     let c6 = passed 6 _ _ M (c5 .1) in
     read (b .0) (b .1) (c5 .0) (ltb-false _ _ (c6 .0)) (gives-inj (c6 .1))
   where
-    read : (s : Sizes) → headerOf file ≡ gives s → any (s .rows) (λ v. spare (drop 8 file) (s .columns) (v * width (s .columns))) ≡ false →
+    read : (s : Sizes) → headerOf file ≡ gives s → anySpare (s .rows) (s .columns) (drop 8 file) ≡ false →
         total (unpacked (drop 8 file) s) ≤ 2 ^ s .columns → unpacked (drop 8 file) s ≡ M → Read file M
     read s h a t q =
         subst (Read file) q
-        (record { whole = header-whole file s h; header = h; no-spare = a; sum = t; is = refl })
+        (record { sized = header-says file s h .sized; header = h; no-spare = a; sum = t; is = refl })
 
 -- ---- reading
 module _ (file : List ℕ) (room : ℕ) where
@@ -215,4 +207,4 @@ module _ (file : List ℕ) (room : ℕ) where
 pub checked-whole : (file : List ℕ) (s : Sizes) → gives s ≡ mapped sizes (matrixOf file) → Whole file s
 checked-whole file s e =
     let g = mapped-gives sizes (matrixOf file) s e in
-    subst (Whole file) (g .2) (matrix-read file (g .0) (g .1) .whole)
+    subst (Whole file) (g .2) (matrix-read file (g .0) (g .1) .sized)

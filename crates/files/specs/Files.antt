@@ -1,20 +1,20 @@
 -- 01, "Files" and "The engine's no": the file of a matrix, and what checking, reading and writing one come to. Assumes nothing.
 use Prim.Native.Nat.{ℕ, _+_, _*_, _^_, _≤_}
 use mathlib.Core.Path.{_≡_}
-use mathlib.Core.Bool.{not}
+use mathlib.Core.Bool.{Bool, not}
 use mathlib.Core.List.{List, _++_}
 use lib.Dec.{eqb, ltb}
 use lib.ListN.{length, getD, take, drop}
 use Rattle.laws.specs.Sums.{any}
-use Rattle.laws.specs.Lay.{blocks, upto}
+use Rattle.laws.specs.Lists.{blocks}
 use Rattle.laws.specs.Outcome.{Outcome, refused, gives, refuse, _>>_, _>>=_}
-use Rattle.files.specs.Fields.{fieldOf, fieldBytes, width, bitOf, packed, spare}
-use Rattle.files.specs.Matrix.{Matrix, Sizes, bit, total, outside, most-rows, most-columns}
-use Rattle.files.specs.Refusal.{numberOf}
-use Rattle.files.specs.declared.reading.Checked.{Checked}
-use Rattle.files.specs.declared.reading.Checked.the-variants as Checked
-use Rattle.files.specs.declared.writing.Written.{Written}
-use Rattle.files.specs.declared.writing.Written.the-variants as Written
+use Rattle.fields.specs.Refusal.{numberOf}
+use Rattle.fields.specs.Limits.{most-columns, outside}
+use Rattle.fields.specs.Fields.{fieldOf, fieldBytes, width, bitOf, packed}
+use Rattle.fields.specs.Strings.{anySpare}
+use Rattle.files.specs.Matrix.{Matrix, Sizes, tabled, bit, total, most-rows}
+use Rattle.files.specs.declared.headers.Checked.{Checked}
+use Rattle.files.specs.declared.headers.Checked.the-variants as Checked
 
 -- the length that a matrix file of m rows and n columns has
 abbrev pub fileLength : ℕ → ℕ → ℕ
@@ -24,9 +24,13 @@ fileLength m n = 8 + m * width n
 unfoldable pub headerBytes : ℕ → ℕ → List ℕ
 headerBytes m n = fieldBytes (fileLength m n) ++ fieldBytes 32 ++ fieldBytes m ++ fieldBytes n
 
+-- its rows: each packed, one after another
+abbrev pub rowBytes : Matrix → List ℕ
+rowBytes M = blocks (M .rows) (λ v. packed (M .columns) (bit M v))
+
 -- the file of a matrix: the header, then each row
 unfoldable pub matrixFile : Matrix → List ℕ
-matrixFile M = headerBytes (M .rows) (M .columns) ++ blocks (M .rows) (λ v. packed (M .columns) (bit M v))
+matrixFile M = headerBytes (M .rows) (M .columns) ++ rowBytes M
 
 -- a matrix file's header: refusals 1 to 4, or its sizes
 unfoldable pub headerOf : List ℕ → Outcome Sizes
@@ -42,13 +46,12 @@ headerOf file = do
 
 -- the matrix whose rows are packed one after another: row v begins at byte v * width n
 unfoldable pub unpacked : List ℕ → Sizes → Matrix
-unpacked bytes s =
-    record { rows = s .rows; columns = s .columns; entries = blocks (s .rows) (λ v. upto (s .columns) (bitOf bytes (v * width (s .columns)))) }
+unpacked bytes s = tabled (s .rows) (s .columns) (λ v. bitOf bytes (v * width (s .columns)))
 
 -- its rows: refusals 5 and 6, or the matrix
 unfoldable pub bodyOf : List ℕ → Sizes → Outcome Matrix
 bodyOf file s = do
-  refuse 5 (any (s .rows) (λ v. spare (drop 8 file) (s .columns) (v * width (s .columns))))
+  refuse 5 (anySpare (s .rows) (s .columns) (drop 8 file))
   refuse 6 (ltb (2 ^ s .columns) (total (unpacked (drop 8 file) s)))
   gives (unpacked (drop 8 file) s)
 
@@ -65,25 +68,37 @@ readOf file room = do
   refuse 13 (ltb room (M .rows * M .columns))
   gives M
 
+-- writing the header of a file of m rows and n columns into a buffer of `room` bytes, where all of that file has room
+unfoldable pub writeHeaderOf : ℕ → ℕ → ℕ → Outcome (List ℕ)
+writeHeaderOf m n room = do
+  refuse 3 (outside most-rows m)
+  refuse 3 (outside most-columns n)
+  refuse 13 (ltb room (fileLength m n))
+  gives (headerBytes m n)
+
+-- the matrix of m rows and n columns whose entries stand row after row
+abbrev pub taken : ℕ → ℕ → List ℕ → Matrix
+taken m n entries = record { rows = m; columns = n; entries = take (m * n) entries }
+
+-- whether one of the first k entries is neither 0 nor 1
+abbrev pub aboveOne : ℕ → List ℕ → Bool
+aboveOne k entries = any k (λ i. ltb 1 (getD entries i 0))
+
 -- writing m rows and n columns, row after row in `entries`, into a buffer of `room` bytes: the file that is laid down
 unfoldable pub writeOf : ℕ → ℕ → List ℕ → ℕ → Outcome (List ℕ)
 writeOf m n entries room = do
   refuse 3 (outside most-rows m)
   refuse 3 (outside most-columns n)
   refuse 13 (ltb (length entries) (m * n))
-  refuse 5 (any (m * n) (λ i. ltb 1 (getD entries i 0)))
-  refuse 6 (ltb (2 ^ n) (total (record { rows = m; columns = n; entries = take (m * n) entries })))
+  refuse 5 (aboveOne (m * n) entries)
+  refuse 6 (ltb (2 ^ n) (total (taken m n entries)))
   refuse 13 (ltb room (fileLength m n))
-  gives (matrixFile (record { rows = m; columns = n; entries = take (m * n) entries }))
+  gives (matrixFile (taken m n entries))
 
--- ---- the answers' cases in 01's numbers and values
+-- ---- the answer's cases in 01's numbers and values
 abbrev pub checked : Checked → Outcome Sizes
 checked (Checked.Refused why) = refused (numberOf why)
 checked (Checked.Matrix m n) = gives (record { rows = m; columns = n })
-
-abbrev pub written : Written → Outcome ℕ
-written (Written.Refused why) = refused (numberOf why)
-written (Written.Length n) = gives n
 
 -- ---- what a header that has passed says: the sizes are in their limits, and the rows are all there and nothing else
 pub record Whole (file : List ℕ) (s : Sizes) : Type 0 where

@@ -12,30 +12,32 @@ use lib.Pow.{pow-pos}
 use lib.Bits.{bitAnd}
 use lib.ListN.{getD}
 use Rattle.laws.specs.Sums.{sumTo, sum-eq, sum-le, sum-same, sum-plus, sum-times}
-use Rattle.laws.specs.Digits.{number, digit, and-one}
-use Rattle.files.specs.Fields.{packedBit}
-
--- the ones of column c
-unfoldable pub weight : (ℕ → ℕ → ℕ) → ℕ → ℕ → ℕ
-weight bit m c = sumTo m (λ v. bit v c)
+use Rattle.laws.specs.Digits.{number, digit}
+use Rattle.laws.specs.Words.{bitAt, bitAt-read}
+use Rattle.fields.specs.Fields.{packedBit}
+use Rattle.files.specs.Matrix.{ones-in}
 
 -- the sum of the m rows, each read from column c on for k columns
 unfoldable pub total-from : (ℕ → ℕ → ℕ) → ℕ → ℕ → ℕ → ℕ
 total-from bit m c k = sumTo m (λ v. number (bit v) c k)
 
+-- whether T is at most 2^n, of m rows of n bits that are packed `per` to a byte, row v from byte v * stride on
+abbrev pub rowsFit : List ℕ → ℕ → ℕ → ℕ → ℕ → Bool
+rowsFit bytes per stride m n = leb (total-from (λ v. packedBit per bytes (v * stride)) m 0 n) (2 ^ n)
+
 -- whether k columns from column c on have room, with h places of the tree open before them
 unfoldable pub live : (ℕ → ℕ → ℕ) → ℕ → ℕ → ℕ → ℕ → Bool
 live bit m c h zero = true
-live bit m c h (suc k) = leb (weight bit m c) (2 * h) && live bit m (suc c) (min (2 * h - weight bit m c) m) k
+live bit m c h (suc k) = leb (ones-in bit m c) (2 * h) && live bit m (suc c) (min (2 * h - ones-in bit m c) m) k
 
 -- bit `shift` of byte first + v * stride: how a column is read
 unfoldable pub strided : List ℕ → ℕ → ℕ → ℕ → ℕ → ℕ
-strided bytes first stride shift v = getD bytes (first + v * stride) 0 / 2 ^ shift % 2
+strided bytes first stride shift v = bitAt (getD bytes (first + v * stride) 0) shift
 
 -- ---- live is T at most 2^n
 -- the total splits off its first column
-pub total-step : (bit : ℕ → ℕ → ℕ) (m c k : ℕ) → total-from bit m c (suc k) ≡ weight bit m c * 2 ^ k + total-from bit m (suc c) k
-unfolding total-from number weight
+pub total-step : (bit : ℕ → ℕ → ℕ) (m c k : ℕ) → total-from bit m c (suc k) ≡ ones-in bit m c * 2 ^ k + total-from bit m (suc c) k
+unfolding total-from number ones-in
 total-step bit m c k =
     omega (
       arith,
@@ -47,9 +49,9 @@ total-none : (bit : ℕ → ℕ → ℕ) (m c : ℕ) → total-from bit m c 0 �
 unfolding total-from number
 total-none bit m c = omega (arith, sum-same m 0 (λ v. 0) (λ v. refl))
 
-pub weight-le : (bit : ℕ → ℕ → ℕ) (m c : ℕ) → ((v : ℕ) → v < m → bit v c ≤ 1) → weight bit m c ≤ m
-unfolding weight
-weight-le bit m c ok = omega (arith, sum-le m 1 (λ v. bit v c) ok)
+pub ones-le : (bit : ℕ → ℕ → ℕ) (m c : ℕ) → ((v : ℕ) → v < m → bit v c ≤ 1) → ones-in bit m c ≤ m
+unfolding ones-in
+ones-le bit m c ok = omega (arith, sum-le m 1 (λ v. bit v c) ok)
 
 -- 2 * h - w places stay open, and what they have to cover is what h had to, less the column's share
 pub go-on : (w h t k s : ℕ) → h * 2 ^ suc k ≡ w * 2 ^ k + t + s → (x : ℕ) × (w + x ≡ 2 * h) × (x * 2 ^ k ≡ t + s)
@@ -90,8 +92,8 @@ module _ (bit : ℕ → ℕ → ℕ) (m : ℕ) where
   unfolding live
   live-fits zero c h H ok e t = omega (arith, total-none bit m c)
   live-fits (suc k) c h H ok e t =
-      let w : ℕ = weight bit m c in
-      let wm : w ≤ m = weight-le bit m c (λ v l. ok v c l (omega arith) (omega arith)) in
+      let w : ℕ = ones-in bit m c in
+      let wm : w ≤ m = ones-le bit m c (λ v l. ok v c l (omega arith) (omega arith)) in
       let wh : w ≤ 2 * h = leb→le w (2 * h) (and-left (leb w (2 * h)) _ t) in
       let wH : w + (2 * H - w) ≡ 2 * H = omega arith in
       let ih : total-from bit m (suc c) k ≤ (2 * H - w) * 2 ^ k =
@@ -104,8 +106,8 @@ module _ (bit : ℕ → ℕ → ℕ) (m : ℕ) where
   unfolding live
   fits-live zero c h H ok e t = tt
   fits-live (suc k) c h H ok e t =
-      let w : ℕ = weight bit m c in
-      let wm : w ≤ m = weight-le bit m c (λ v l. ok v c l (omega arith) (omega arith)) in
+      let w : ℕ = ones-in bit m c in
+      let wm : w ≤ m = ones-le bit m c (λ v l. ok v c l (omega arith) (omega arith)) in
       let s : ℕ = H * 2 ^ suc k - total-from bit m c (suc k) in
       let x = go-on w H (total-from bit m (suc c) k) k s (omega (arith, total-step bit m c k)) in
       let xe : x .0 ≡ 2 * H - w = omega (arith, x .1) in
@@ -120,7 +122,8 @@ same-test false true f g = absurd (g tt)
 same-test false false f g = refl
 
 -- every column has room exactly when the rows sum to at most 2^n, for every m and n
-pub live-is : (bit : ℕ → ℕ → ℕ) (m n : ℕ) → ((v c : ℕ) → v < m → c < n → bit v c ≤ 1) → live bit m 0 1 n ≡ leb (total-from bit m 0 n) (2 ^ n)
+pub live-is : (bit : ℕ → ℕ → ℕ) (m n : ℕ) → ((v c : ℕ) → v < m → c < n → bit v c ≤ 1) →
+    live bit m 0 1 n ≡ leb (total-from bit m 0 n) (2 ^ n)
 live-is bit m n ok =
     same-test (live bit m 0 1 n) (leb (total-from bit m 0 n) (2 ^ n))
     (λ t. le→leb (total-from bit m 0 n) (2 ^ n) (omega (arith, live-fits bit m n 0 1 1 (λ v i l a b. ok v i l (omega arith)) refl t)))
@@ -131,17 +134,17 @@ module _ (bit : ℕ → ℕ → ℕ) (m n : ℕ) (whole : Bool) where
   unfoldable pub Open : ℕ → ℕ → Type 0
   Open c h = live bit m c h (n - c) ≡ whole
 
-  pub open-full : (c h w : ℕ) → c < n → w ≡ weight bit m c → 2 * h < w → Open c h → false ≡ whole
+  pub open-full : (c h w : ℕ) → c < n → w ≡ ones-in bit m c → 2 * h < w → Open c h → false ≡ whole
   unfolding Open live
   open-full c h w l e b o =
       let q : n - c ≡ suc (n - (c + 1)) = omega arith in
-      rw (lt-leb (weight bit m c) (2 * h) (omega arith)) at (rw q at o)
+      rw (lt-leb (ones-in bit m c) (2 * h) (omega arith)) at (rw q at o)
 
-  pub open-next : (c h w : ℕ) → c < n → w ≡ weight bit m c → w ≤ 2 * h → Open c h → Open (c + 1) (min (2 * h - w) m)
+  pub open-next : (c h w : ℕ) → c < n → w ≡ ones-in bit m c → w ≤ 2 * h → Open c h → Open (c + 1) (min (2 * h - w) m)
   unfolding Open live
   open-next c h w l e b o =
       let q : n - c ≡ suc (n - (c + 1)) = omega arith in
-      rw (e, add-one c) (rw (add-one c) at (rw (le-leb (weight bit m c) (2 * h) (omega arith)) at (rw q at o)))
+      rw (e, add-one c) (rw (add-one c) at (rw (le-leb (ones-in bit m c) (2 * h) (omega arith)) at (rw q at o)))
 
   pub open-done : (c h : ℕ) → n ≤ c → Open c h → true ≡ whole
   unfolding Open live
@@ -154,14 +157,15 @@ unfolding Open
 open-first bit m n = rw (sub-zero n)
 
 -- ---- a column, as it is read
-pub strided-read : (bytes : List ℕ) (first stride shift v : ℕ) → bitAnd (getD bytes (first + v * stride) 0 / 2 ^ shift) 1 ≡ strided bytes first stride shift v
+pub strided-read : (bytes : List ℕ) (first stride shift v : ℕ) →
+    bitAnd (getD bytes (first + v * stride) 0 / 2 ^ shift) 1 ≡ strided bytes first stride shift v
 unfolding strided
-strided-read bytes first stride shift v = and-one (getD bytes (first + v * stride) 0 / 2 ^ shift)
+strided-read bytes first stride shift v = bitAt-read (getD bytes (first + v * stride) 0) shift
 
--- a column's ones are its weight
-pub strided-weight : (bytes : List ℕ) (per stride m c : ℕ) →
-    sumTo m (strided bytes (c / per) stride (per - 1 - c % per)) ≡ weight (λ v. packedBit per bytes (v * stride)) m c
-unfolding strided weight packedBit digit
-strided-weight bytes per stride m c =
+-- the ones that are read are the column's
+pub strided-ones : (bytes : List ℕ) (per stride m c : ℕ) →
+    sumTo m (strided bytes (c / per) stride (per - 1 - c % per)) ≡ ones-in (λ v. packedBit per bytes (v * stride)) m c
+unfolding strided ones-in packedBit digit bitAt
+strided-ones bytes per stride m c =
     sum-eq m (strided bytes (c / per) stride (per - 1 - c % per)) (λ v. packedBit per bytes (v * stride) c)
-    (λ v l. ap (λ (i : ℕ). getD bytes i 0 / 2 ^ (per - 1 - c % per) % 2) (add-comm (c / per) (v * stride)))
+    (λ v l. ap (λ (i : ℕ). bitAt (getD bytes i 0) (per - 1 - c % per)) (add-comm (c / per) (v * stride)))

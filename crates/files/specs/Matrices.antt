@@ -1,10 +1,10 @@
--- Matrices as values: m, n and every bit fix a matrix. Assumes nothing.
-use Prim.Native.Nat.{ℕ, _*_, _<_}
-use mathlib.Core.Path.{_≡_}
+-- Matrices as values: m, n and every bit fix a matrix, and any bits make one. Assumes nothing.
+use Prim.Native.Nat.{ℕ, _*_, _≤_, _<_}
+use mathlib.Core.Path.{_≡_, _∙_}
 use mathlib.Core.List.{List}
-use lib.ListN.{length}
-use Rattle.laws.specs.Lay.{table-ext}
-use Rattle.files.specs.Matrix.{Matrix, bit}
+use lib.ListN.{length, getD}
+use Rattle.laws.specs.Lists.{upto, length-upto, getD-upto, length-blocks, getD-blocks, blocks-each, table-ext}
+use Rattle.files.specs.Matrix.{Matrix, tabled, bit}
 
 -- two matrices are equal when m, n and every bit agree
 pub equal-bits : (M N : Matrix) → length (M .entries) ≡ M .rows * M .columns → length (N .entries) ≡ N .rows * N .columns →
@@ -18,3 +18,19 @@ equal-bits M N a b m n e =
   where
     matrix : ℕ → ℕ → List ℕ → Matrix
     matrix rows columns entries = record { rows = rows; columns = columns; entries = entries }
+
+-- ---- a matrix given bit by bit
+module _ (m n : ℕ) (f : ℕ → ℕ → ℕ) where
+  wide : (v : ℕ) → length (upto n (f v)) ≡ n
+  wide v = length-upto n (f v)
+
+  pub tabled-whole : length (tabled m n f .entries) ≡ m * n
+  tabled-whole = length-blocks n (λ v. upto n (f v)) wide m
+
+  pub tabled-bit : (v c : ℕ) → v < m → c < n → bit (tabled m n f) v c ≡ f v c
+  unfolding bit
+  tabled-bit v c h l = getD-blocks n (λ v. upto n (f v)) wide m v c 0 h l ∙ getD-upto n (f v) c 0 l
+
+  pub tabled-bits : ((v c : ℕ) → f v c ≤ 1) → (i : ℕ) → i < m * n → getD (tabled m n f .entries) i 0 ≤ 1
+  tabled-bits ok =
+      blocks-each n (λ v. upto n (f v)) wide (λ (x : ℕ). x ≤ 1) m 0 (λ v c h l. rw (getD-upto n (f v) c 0 l) (ok v c))

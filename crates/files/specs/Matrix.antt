@@ -3,21 +3,18 @@ use Prim.Native.Nat.{ℕ, _+_, _*_, _^_, _≤_, _<_}
 use mathlib.Core.Path.{_≡_}
 use mathlib.Core.Bool.{Bool, _||_}
 use mathlib.Core.List.{List}
-use lib.Dec.{ltb}
 use lib.ListN.{length, getD}
 use Rattle.laws.specs.Sums.{sumTo}
 use Rattle.laws.specs.Digits.{number}
+use Rattle.laws.specs.Lists.{blocks, upto}
+use Rattle.fields.specs.Limits.{most-columns, outside}
 
 -- the limits: m and n each 1 to 128
 abbrev pub most-rows : ℕ
 most-rows = 128
 
-abbrev pub most-columns : ℕ
-most-columns = 128
-
--- a size outside 1 to `most`
-abbrev pub outside : ℕ → ℕ → Bool
-outside most x = ltb x 1 || ltb most x
+abbrev pub sizesOutside : ℕ → ℕ → Bool
+sizesOutside m n = outside most-rows m || outside most-columns n
 
 pub record Sizes : Type 0 where
   pub rows : ℕ
@@ -32,6 +29,10 @@ pub record Matrix : Type 0 where
 abbrev pub sizes : Matrix → Sizes
 sizes M = record { rows = M .rows; columns = M .columns }
 
+-- the matrix of m rows and n columns whose bit in row v, column c is f v c
+abbrev pub tabled : ℕ → ℕ → (ℕ → ℕ → ℕ) → Matrix
+tabled m n f = record { rows = m; columns = n; entries = blocks m (λ v. upto n (f v)) }
+
 -- the bit in row v, column c
 unfoldable pub bit : Matrix → ℕ → ℕ → ℕ
 bit M v c = getD (M .entries) (v * M .columns + c) 0
@@ -43,6 +44,10 @@ p M v = number (bit M v) 0 (M .columns)
 -- T: the sum of all p_v
 unfoldable pub total : Matrix → ℕ
 total M = sumTo (M .rows) (p M)
+
+-- the ones of column c, in m rows of bits
+unfoldable pub ones-in : (ℕ → ℕ → ℕ) → ℕ → ℕ → ℕ
+ones-in bit m c = sumTo m (λ v. bit v c)
 
 -- a matrix that is accepted: sizes in their limits, an entry of 0 or 1 in each place, and T at most 2^n
 pub record Accepted (M : Matrix) : Type 0 where

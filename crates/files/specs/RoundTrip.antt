@@ -4,35 +4,26 @@ use mathlib.Core.Path.{_≡_, refl, sym, ap, _∙_}
 use mathlib.Core.Bool.{false}
 use mathlib.Core.List.{List, [], _∷_, _++_}
 use native.Mathlib.Omega.{arith}
-use borrow.Author.Tests.{le-ltb, eqb-false, ltb-false}
-use lib.Dec.{eqb, ltb}
+use borrow.Author.Tests.{le-ltb, ltb-false}
+use lib.Dec.{ltb}
 use lib.ListN.{length, getD, take, drop, length-drop, take-append-drop}
 use lib.Seq.{getD-drop, getD-take, length-take-le}
-use Rattle.laws.specs.Sums.{any, any-all, any-false}
-use Rattle.laws.specs.Digits.{number, number-shift, number-digit, digit, digit-number}
-use Rattle.laws.specs.Lay.{blocks, upto, lay, getD-blocks, length-blocks, blocks-each, getD-upto, length-upto, table-ext, take-is, length-lay, take-lay, at-front}
+use Rattle.laws.specs.Sums.{any-all, any-false}
+use Rattle.laws.specs.Digits.{number, number-shift, number-digit, digit}
+use Rattle.laws.specs.Lists.{blocks, upto, getD-blocks, length-blocks, getD-upto, table-ext, take-is}
+use Rattle.laws.specs.Lay.{lay, length-lay, take-lay, at-front}
 use Rattle.laws.specs.Outcome.{gives, refuse, _>>_, _>>=_, passed, bound, gives-inj}
-use Rattle.files.specs.Fields.{fieldOf, fieldBytes, width, bitOf, packedBit, bit-le, padded, padded-le, padded-below, padded-above, padded-both, packed, length-packed, spare, spare-none, spare-zero}
-use Rattle.files.specs.Matrix.{Matrix, sizes, Accepted, bit, total, outside, most-rows, most-columns}
-use Rattle.files.specs.Files.{fileLength, headerBytes, matrixFile, headerOf, bodyOf, matrixOf, readOf, writeOf, unpacked}
-use Rattle.files.specs.Matrices.{equal-bits}
-use Rattle.files.specs.Checks.{inside, within, header-gives, header-fields, Read, matrix-read, unpacked-bit, read-room}
-use Rattle.files.specs.Weights.{sum, built, buildOf}
-use Rattle.files.specs.Building.{built-accepted}
-use Rattle.files.specs.declared.weights.Usage.{Usage}
-use Rattle.files.specs.Writing.{taken, cell, length-file, no-entry-above, write-gives}
-
--- ---- packed rows, bit by bit
--- bit i of packed row v: the row's bit below n, and 0 in the spare bits
-pub packed-bit : (n : ℕ) (f : ℕ → ℕ → ℕ) (m v i : ℕ) → ((c : ℕ) → c < n → f v c ≤ 1) → v < m → i < 8 * width n →
-    bitOf (blocks m (λ v. packed n (f v))) (v * width n) i ≡ padded n (f v) i
-unfolding packedBit packed
-packed-bit n f m v i ok h l =
-    let place : 8 * (i / 8) + i % 8 ≡ i = omega arith in
-    ap (λ (x : ℕ). digit 8 x (i % 8))
-    (getD-blocks (width n) (λ v. packed n (f v)) (λ v. length-packed n (f v)) m v (i / 8) 0 h (omega arith) ∙
-    getD-upto (width n) (λ q. number (padded n (f v)) (8 * q) 8) (i / 8) 0 (omega arith)) ∙
-    (digit-number (padded n (f v)) (8 * (i / 8)) 8 (i % 8) (λ j a b. padded-le n (f v) j ok) (omega arith) ∙ ap (padded n (f v)) place)
+use Rattle.fields.specs.Limits.{most-columns, outside, within}
+use Rattle.fields.specs.Fields.{fieldOf, fieldBytes, width, bitOf, packedBit, bit-le, padded, padded-below, padded-above, padded-both}
+use Rattle.fields.specs.Fields.{packed, packed-bit, length-packed, spare, spare-none, spare-zero}
+use Rattle.fields.specs.Strings.{anySpare}
+use Rattle.files.specs.Matrix.{Matrix, sizes, sizesOutside, Accepted, bit, total, most-rows}
+use Rattle.files.specs.Files.{fileLength, headerBytes, rowBytes, matrixFile, headerOf, bodyOf, matrixOf}
+use Rattle.files.specs.Files.{unpacked, readOf, taken, aboveOne, writeOf}
+use Rattle.files.specs.Matrices.{equal-bits, tabled-whole, tabled-bits}
+use Rattle.files.specs.Sizes.{sizes-inside, cell}
+use Rattle.files.specs.Checks.{header-gives, header-says, Read, matrix-read, unpacked-bit, read-room}
+use Rattle.files.specs.Writing.{length-file, no-entry-above, head-gives, write-rest}
 
 -- ---- a written matrix reads as itself
 -- its entries are bits
@@ -40,43 +31,50 @@ pub accepted-bits : (M : Matrix) → Accepted M → (v c : ℕ) → v < M .rows 
 unfolding bit
 accepted-bits M ok v c h l = ok .bits (v * M .columns + c) (cell v (M .rows) (M .columns) c h l)
 
-module _ (M : Matrix) (ok : Accepted M) where
-  rows : List ℕ
-  rows = blocks (M .rows) (λ v. packed (M .columns) (bit M v))
+-- and its sizes are within their limits
+accepted-sizes : (M : Matrix) → Accepted M → sizesOutside (M .rows) (M .columns) ≡ false
+accepted-sizes M ok =
+    sizes-inside (M .rows) (M .columns)
+    (record { some-rows = ok .some-rows; few-rows = ok .few-rows; some-columns = ok .some-columns; few-columns = ok .few-columns })
 
-  file-fields : (fieldOf (matrixFile M) 0 ≡ fileLength (M .rows) (M .columns)) × (fieldOf (matrixFile M) 2 ≡ 32) × (fieldOf (matrixFile M) 4 ≡ M .rows) × (fieldOf (matrixFile M) 6 ≡ M .columns)
+module _ (M : Matrix) (ok : Accepted M) where
+  -- where row v begins
+  abbrev at : ℕ → ℕ
+  at v = v * width (M .columns)
+
+  file-fields :
+      (fieldOf (matrixFile M) 0 ≡ fileLength (M .rows) (M .columns)) × (fieldOf (matrixFile M) 2 ≡ 32) ×
+      (fieldOf (matrixFile M) 4 ≡ M .rows) × (fieldOf (matrixFile M) 6 ≡ M .columns)
   unfolding fieldOf matrixFile headerBytes
   file-fields = (omega arith, refl, omega arith, omega arith)
 
-  file-rest : drop 8 (matrixFile M) ≡ rows
-  unfolding matrixFile headerBytes rows
+  file-rest : drop 8 (matrixFile M) ≡ rowBytes M
+  unfolding matrixFile headerBytes
   file-rest = refl
 
-  row-bit : (v i : ℕ) → v < M .rows → i < 8 * width (M .columns) → bitOf rows (v * width (M .columns)) i ≡ padded (M .columns) (bit M v) i
-  unfolding rows
+  row-bit : (v i : ℕ) → v < M .rows → i < 8 * width (M .columns) → bitOf (rowBytes M) (at v) i ≡ padded (M .columns) (bit M v) i
   row-bit v i h l = packed-bit (M .columns) (bit M) (M .rows) v i (λ c k. accepted-bits M ok v c h k) h l
 
-  no-spare : any (M .rows) (λ v. spare rows (M .columns) (v * width (M .columns))) ≡ false
-  no-spare = any-all (M .rows) (λ v. spare rows (M .columns) (v * width (M .columns))) (λ v h. one v h)
+  no-spare : anySpare (M .rows) (M .columns) (rowBytes M) ≡ false
+  no-spare = any-all (M .rows) (λ v. spare (rowBytes M) (M .columns) (at v)) (λ v h. one v h)
     where
-      one : (v : ℕ) → v < M .rows → spare rows (M .columns) (v * width (M .columns)) ≡ false
-      one v h = spare-none rows (M .columns) (v * width (M .columns)) (λ i a b. row-bit v i h b ∙ sym (padded-above (M .columns) (bit M v) i a))
+      one : (v : ℕ) → v < M .rows → spare (rowBytes M) (M .columns) (at v) ≡ false
+      one v h = spare-none (rowBytes M) (M .columns) (at v) (λ i a b. row-bit v i h b ∙ sym (padded-above (M .columns) (bit M v) i a))
 
-  same : unpacked rows (sizes M) ≡ M
+  same : unpacked (rowBytes M) (sizes M) ≡ M
   unfolding unpacked
   same =
-      equal-bits (unpacked rows (sizes M)) M
-      (length-blocks (M .columns) (λ v. upto (M .columns) (bitOf rows (v * width (M .columns))))
-      (λ v. length-upto (M .columns) (bitOf rows (v * width (M .columns)))) (M .rows))
-      (ok .whole) refl refl
-      (λ v c h l. unpacked-bit rows (sizes M) v c h l ∙ (row-bit v c h (omega arith) ∙ sym (padded-below (M .columns) (bit M v) c l)))
+      equal-bits (unpacked (rowBytes M) (sizes M)) M (tabled-whole (M .rows) (M .columns) (λ v. bitOf (rowBytes M) (at v))) (ok .whole)
+      refl refl
+      (λ v c h l.
+      unpacked-bit (rowBytes M) (sizes M) v c h l ∙ (row-bit v c h (omega arith) ∙ sym (padded-below (M .columns) (bit M v) c l)))
 
   header-same : headerOf (matrixFile M) ≡ gives (sizes M)
   header-same =
       let f = file-fields in
-      sym (header-gives (matrixFile M) (fileLength (M .rows) (M .columns)) 32 (M .rows) (M .columns) (sym (f .0)) (sym (f .1)) (sym (f .2)) (sym (f .3))
-      (omega (arith, length-file M)) (omega (arith, length-file M)) refl (inside most-rows (M .rows) (ok .some-rows) (ok .few-rows))
-      (inside most-columns (M .columns) (ok .some-columns) (ok .few-columns)) refl (length-file M))
+      let long = length-file M in
+      sym (header-gives (matrixFile M) (omega arith) (omega (arith, f .0)) (f .1) (M .rows) (M .columns) (sym (f .2)) (sym (f .3))
+      (accepted-sizes M ok) (f .0) (long ∙ sym (f .0)))
 
   body-same : bodyOf (matrixFile M) (sizes M) ≡ gives M
   unfolding bodyOf
@@ -92,59 +90,63 @@ pub read-accepted : (file : List ℕ) (M : Matrix) → matrixOf file ≡ gives M
 unfolding unpacked
 read-accepted file M e =
     let r = matrix-read file M e in
-    let w = r .whole in
-    let entries : M .entries ≡ blocks (M .rows) (λ v. upto (M .columns) (bitOf (drop 8 file) (v * width (M .columns)))) = ap (λ (X : Matrix). X .entries) (r .is) in
+    let w = r .sized in
+    let entries = ap (λ (X : Matrix). X .entries) (r .is) in
     record {
       some-rows = w .some-rows;
       few-rows = w .few-rows;
       some-columns = w .some-columns;
       few-columns = w .few-columns;
-      whole =
-          rw entries
-          (length-blocks (M .columns) (λ v. upto (M .columns) (bitOf (drop 8 file) (v * width (M .columns))))
-          (λ v. length-upto (M .columns) (bitOf (drop 8 file) (v * width (M .columns)))) (M .rows));
+      whole = rw entries (tabled-whole (M .rows) (M .columns) (λ v. bitOf (drop 8 file) (v * width (M .columns))));
       bits =
           rw entries
-          (blocks-each (M .columns) (λ v. upto (M .columns) (bitOf (drop 8 file) (v * width (M .columns))))
-          (λ v. length-upto (M .columns) (bitOf (drop 8 file) (v * width (M .columns)))) (λ (x : ℕ). x ≤ 1) (M .rows) 0
-          (λ v c h l. rw (getD-upto (M .columns) (bitOf (drop 8 file) (v * width (M .columns))) c 0 l) (bit-le 8 (drop 8 file) (v * width (M .columns)) c)));
+          (tabled-bits (M .rows) (M .columns) (λ v. bitOf (drop 8 file) (v * width (M .columns)))
+          (λ v. bit-le 8 (drop 8 file) (v * width (M .columns))));
       sum = r .sum;
     }
 
-same-bytes : (len m n b0 b1 b2 b3 b4 b5 b6 b7 : ℕ) → b0 < 256 → b2 < 256 → b4 < 256 → b6 < 256 → b0 + 256 * b1 ≡ len → b2 + 256 * b3 ≡ 32 →
-    b4 + 256 * b5 ≡ m → b6 + 256 * b7 ≡ n →
-    fieldBytes len ++ fieldBytes 32 ++ fieldBytes m ++ fieldBytes n ≡ b0 ∷ b1 ∷ b2 ∷ b3 ∷ b4 ∷ b5 ∷ b6 ∷ b7 ∷ []
-same-bytes len m n b0 b1 b2 b3 b4 b5 b6 b7 h0 h2 h4 h6 e0 e2 e4 e6 =
-    let q0 : len % 256 ≡ b0 = omega arith in
-    let q1 : len / 256 ≡ b1 = omega arith in
-    let q2 : b2 ≡ 32 = omega arith in
-    let q3 : b3 ≡ 0 = omega arith in
-    let q4 : m % 256 ≡ b4 = omega arith in
-    let q5 : m / 256 ≡ b5 = omega arith in
-    let q6 : n % 256 ≡ b6 = omega arith in
-    let q7 : n / 256 ≡ b7 = omega arith in
-    rw (q0, q1, q2, q3, q4, q5, q6, q7)
+-- the two bytes of a field are those that it is read from
+field-back : (file : List ℕ) (at x : ℕ) → getD file at 0 < 256 → fieldOf file at ≡ x →
+    fieldBytes x ≡ getD file at 0 ∷ getD file (at + 1) 0 ∷ []
+unfolding fieldOf
+field-back file at x h e =
+    let low : x % 256 ≡ getD file at 0 = omega arith in
+    let high : x / 256 ≡ getD file (at + 1) 0 = omega arith in
+    rw (low, high)
 
 module _ (file : List ℕ) (bytes : (i : ℕ) → getD file i 0 < 256) (M : Matrix) (e : matrixOf file ≡ gives M) where
   r : Read file M
   r = matrix-read file M e
 
+  -- the rows, and where row v begins
+  abbrev rest : List ℕ
+  rest = drop 8 file
+
+  abbrev from : ℕ → ℕ
+  from v = v * width (M .columns)
+
   header-back : headerBytes (M .rows) (M .columns) ≡ take 8 file
-  unfolding headerBytes fieldOf upto blocks
+  unfolding headerBytes upto blocks
   header-back =
-      let f = header-fields file (sizes M) (r .header) in
-      same-bytes (fileLength (M .rows) (M .columns)) (M .rows) (M .columns) (getD file 0 0) (getD file 1 0) (getD file 2 0) (getD file 3 0) (getD file 4 0) (getD file 5 0)
-      (getD file 6 0) (getD file 7 0) (bytes 0) (bytes 2) (bytes 4) (bytes 6) (f .0) (f .1) (f .2) (f .3) ∙
-      sym (take-is 0 8 file (omega (arith, r .whole .long)))
+      let f = header-says file (sizes M) (r .header) in
+      let len = field-back file 0 (fileLength (M .rows) (M .columns)) (bytes 0) (f .length-is) in
+      let kind = field-back file 2 32 (bytes 2) (f .kind-is) in
+      let m = field-back file 4 (M .rows) (bytes 4) (f .rows-is) in
+      let n = field-back file 6 (M .columns) (bytes 6) (f .columns-is) in
+      joined _ _ _ _ _ _ _ _ len kind m n ∙ sym (take-is 0 8 file (omega (arith, r .sized .long)))
+    where
+      joined : (a a′ b b′ c c′ d d′ : List ℕ) → a ≡ a′ → b ≡ b′ → c ≡ c′ → d ≡ d′ → a ++ b ++ c ++ d ≡ a′ ++ b′ ++ c′ ++ d′
+      joined a a′ b b′ c c′ d d′ p q r s = rw (p, q, r, s)
 
   -- below n the bits are the matrix's, and the spare bits are 0
-  bit-back : (v i : ℕ) → v < M .rows → i < 8 * width (M .columns) → padded (M .columns) (bit M v) i ≡ bitOf (drop 8 file) (v * width (M .columns)) i
+  bit-back : (v i : ℕ) → v < M .rows → i < 8 * width (M .columns) → padded (M .columns) (bit M v) i ≡ bitOf rest (from v) i
   bit-back v i h l =
-      padded-both (λ (x : ℕ). x ≡ bitOf (drop 8 file) (v * width (M .columns)) i) (M .columns) (bit M v) i
-      (λ k. ap (λ (X : Matrix). bit X v i) (r .is) ∙ unpacked-bit (drop 8 file) (sizes M) v i h k)
-      (λ k. sym (spare-zero (drop 8 file) (M .columns) (v * width (M .columns)) (any-false (M .rows) v (λ v. spare (drop 8 file) (M .columns) (v * width (M .columns))) (r .no-spare) h) i k l))
+      let clear = any-false (M .rows) v (λ v. spare rest (M .columns) (from v)) (r .no-spare) h in
+      padded-both (λ (x : ℕ). x ≡ bitOf rest (from v) i) (M .columns) (bit M v) i
+      (λ k. ap (λ (X : Matrix). bit X v i) (r .is) ∙ unpacked-bit rest (sizes M) v i h k)
+      (λ k. sym (spare-zero rest (M .columns) (from v) clear i k l))
 
-  place : (v q i : ℕ) → i < 8 → bitOf (drop 8 file) (v * width (M .columns)) (8 * q + i) ≡ digit 8 (getD (drop 8 file) (v * width (M .columns) + q) 0) (0 + i)
+  place : (v q i : ℕ) → i < 8 → bitOf rest (from v) (8 * q + i) ≡ digit 8 (getD rest (from v + q) 0) (0 + i)
   unfolding packedBit
   place v q i k =
       let a : (8 * q + i) / 8 ≡ q = omega arith in
@@ -153,23 +155,23 @@ module _ (file : List ℕ) (bytes : (i : ℕ) → getD file i 0 < 256) (M : Matr
 
   -- each byte of a row is the number of its eight bits
   byte-back : (v q : ℕ) → v < M .rows → q < width (M .columns) →
-      number (padded (M .columns) (bit M v)) (8 * q) 8 ≡ getD (drop 8 file) (v * width (M .columns) + q) 0
+      number (padded (M .columns) (bit M v)) (8 * q) 8 ≡ getD rest (from v + q) 0
   byte-back v q h l =
-      let x : ℕ = getD (drop 8 file) (v * width (M .columns) + q) 0 in
-      number-shift (padded (M .columns) (bit M v)) (digit 8 (getD (drop 8 file) (v * width (M .columns) + q) 0)) (8 * q) 0 8
+      number-shift (padded (M .columns) (bit M v)) (digit 8 (getD rest (from v + q) 0)) (8 * q) 0 8
       (λ i k. bit-back v (8 * q + i) h (omega arith) ∙ place v q i k) ∙
-      number-digit 8 (getD (drop 8 file) (v * width (M .columns) + q) 0)
-      (rw (getD-drop 8 file (v * width (M .columns) + q) 0) (bytes (8 + (v * width (M .columns) + q))))
+      number-digit 8 (getD rest (from v + q) 0) (rw (getD-drop 8 file (from v + q) 0) (bytes (8 + (from v + q))))
 
-  rows-back : blocks (M .rows) (λ v. packed (M .columns) (bit M v)) ≡ drop 8 file
+  rows-back : rowBytes M ≡ rest
   unfolding packed
   rows-back =
-      table-ext 0 (M .rows) (width (M .columns)) (blocks (M .rows) (λ v. packed (M .columns) (bit M v))) (drop 8 file)
-      (length-blocks (width (M .columns)) (λ v. packed (M .columns) (bit M v)) (λ v. length-packed (M .columns) (bit M v)) (M .rows))
-      (rw (length-drop 8 file) (omega (arith, r .whole .long)))
+      let n = M .columns in
+      let row : ℕ → List ℕ = λ v. packed n (bit M v) in
+      let wide : (v : ℕ) → length (row v) ≡ width n = λ v. length-packed n (bit M v) in
+      table-ext 0 (M .rows) (width n) (rowBytes M) rest (length-blocks (width n) row wide (M .rows))
+      (rw (length-drop 8 file) (omega (arith, r .sized .long)))
       (λ v q h l.
-      getD-blocks (width (M .columns)) (λ v. packed (M .columns) (bit M v)) (λ v. length-packed (M .columns) (bit M v)) (M .rows) v q 0 h l ∙
-      (getD-upto (width (M .columns)) (λ q. number (padded (M .columns) (bit M v)) (8 * q) 8) q 0 l ∙ byte-back v q h l))
+      getD-blocks (width n) row wide (M .rows) v q 0 h l ∙
+      (getD-upto (width n) (λ q. number (padded n (bit M v)) (8 * q) 8) q 0 l ∙ byte-back v q h l))
 
   pub read-write : matrixFile M ≡ file
   unfolding matrixFile
@@ -177,30 +179,37 @@ module _ (file : List ℕ) (bytes : (i : ℕ) → getD file i 0 < 256) (M : Matr
 
 -- ---- the operations together
 -- An accepted file, read into any buffer and written again from it, is the same bytes.
-again : (M : Matrix) (entries : List ℕ) → length (M .entries) ≡ M .rows * M .columns → taken (M .rows) (M .columns) (lay (M .entries) entries) ≡ M
+again : (M : Matrix) (entries : List ℕ) → length (M .entries) ≡ M .rows * M .columns →
+    taken (M .rows) (M .columns) (lay (M .entries) entries) ≡ M
 again M entries e =
-    ap (λ (l : List ℕ). record { rows = M .rows; columns = M .columns; entries = l }) (take-lay (M .rows * M .columns) (M .entries) entries e)
+    ap (λ (l : List ℕ). record { rows = M .rows; columns = M .columns; entries = l })
+    (take-lay (M .rows * M .columns) (M .entries) entries e)
 
-pub read-then-write : (file entries : List ℕ) (room : ℕ) (M : Matrix) → ((i : ℕ) → getD file i 0 < 256) → readOf file (length entries) ≡ gives M →
-    length file ≤ room → writeOf (M .rows) (M .columns) (lay (M .entries) entries) room ≡ gives file
+pub read-then-write : (file entries : List ℕ) (room : ℕ) (M : Matrix) → ((i : ℕ) → getD file i 0 < 256) →
+    readOf file (length entries) ≡ gives M → length file ≤ room →
+    writeOf (M .rows) (M .columns) (lay (M .entries) entries) room ≡ gives file
 unfolding readOf
 read-then-write file entries room M bytes e h =
     let b = bound (matrixOf file) (λ X. refuse 13 (ltb (length entries) (X .rows * X .columns)) >> gives X) M e in
     let c = passed 13 (ltb (length entries) (b .0 .rows * b .0 .columns)) (gives (b .0)) M (b .2) in
     written (b .1 ∙ c .1) (rw (gives-inj (c .1)) at (ltb-false (length entries) (b .0 .rows * b .0 .columns) (c .0)))
   where
-    written : matrixOf file ≡ gives M → M .rows * M .columns ≤ length entries → writeOf (M .rows) (M .columns) (lay (M .entries) entries) room ≡ gives file
+    written : matrixOf file ≡ gives M → M .rows * M .columns ≤ length entries →
+        writeOf (M .rows) (M .columns) (lay (M .entries) entries) room ≡ gives file
     written g l =
+        let laid : List ℕ = lay (M .entries) entries in
         let ok = read-accepted file M g in
+        let sized = accepted-sizes M ok in
         let back = again M entries (ok .whole) in
-        let long : M .rows * M .columns ≤ length (lay (M .entries) entries) = rw (length-lay (M .entries) entries (omega (arith, ok .whole))) l in
-        let small : any (M .rows * M .columns) (λ i. ltb 1 (getD (lay (M .entries) entries) i 0)) ≡ false =
-        any-all (M .rows * M .columns) (λ i. ltb 1 (getD (lay (M .entries) entries) i 0))
-        (λ i k. le-ltb 1 (getD (lay (M .entries) entries) i 0) (rw (at-front (M .entries) entries i 0 (omega (arith, ok .whole))) (ok .bits i k))) in
-        let sum : ltb (2 ^ M .columns) (total (taken (M .rows) (M .columns) (lay (M .entries) entries))) ≡ false = rw back (le-ltb (2 ^ M .columns) (total M) (ok .sum)) in
-        write-gives (M .rows) (M .columns) (lay (M .entries) entries) room (inside most-rows (M .rows) (ok .some-rows) (ok .few-rows))
-        (inside most-columns (M .columns) (ok .some-columns) (ok .few-columns)) long small sum (omega (arith, matrix-read file M g .whole .long)) ∙
-        ap gives (ap matrixFile back ∙ read-write file bytes M g)
+        let long : M .rows * M .columns ≤ length laid = rw (length-lay (M .entries) entries (omega (arith, ok .whole))) l in
+        let small : aboveOne (M .rows * M .columns) laid ≡ false =
+        any-all (M .rows * M .columns) (λ i. ltb 1 (getD laid i 0))
+        (λ i k. le-ltb 1 (getD laid i 0) (rw (at-front (M .entries) entries i 0 (omega (arith, ok .whole))) (ok .bits i k))) in
+        let sum : ltb (2 ^ M .columns) (total (taken (M .rows) (M .columns) laid)) ≡ false =
+        rw back (le-ltb (2 ^ M .columns) (total M) (ok .sum)) in
+        write-rest (M .rows) (M .columns) laid room sized long small sum ∙
+        (rw (head-gives (M .rows) (M .columns) room sized (omega (arith, matrix-read file M g .sized .long)))
+        (ap gives (ap matrixFile back ∙ read-write file bytes M g)))
 
 -- A written file is that of the matrix of the entries.
 pub written-is : (m n : ℕ) (entries file : List ℕ) (room : ℕ) → writeOf m n entries room ≡ gives file →
@@ -210,7 +219,7 @@ written-is m n entries file room e =
     let c1 = passed 3 (outside most-rows m) _ file e in
     let c2 = passed 3 (outside most-columns n) _ file (c1 .1) in
     let c3 = passed 13 (ltb (length entries) (m * n)) _ file (c2 .1) in
-    let c4 = passed 5 (any (m * n) (λ i. ltb 1 (getD entries i 0))) _ file (c3 .1) in
+    let c4 = passed 5 (aboveOne (m * n) entries) _ file (c3 .1) in
     let c5 = passed 6 (ltb (2 ^ n) (total (taken m n entries))) _ file (c4 .1) in
     let c6 = passed 13 (ltb room (fileLength m n)) _ file (c5 .1) in
     let r = within most-rows m (c1 .0) in
@@ -232,24 +241,3 @@ written-is m n entries file room e =
 pub write-then-read : (m n : ℕ) (entries file : List ℕ) (room space : ℕ) → writeOf m n entries room ≡ gives file → m * n ≤ space →
     readOf file space ≡ gives (taken m n entries)
 write-then-read m n entries file room space e h = read-room file space (taken m n entries) (written-is m n entries file room e) h
-
--- What is built is the file of the matrix of the shares.
-pub built-is : (usage : Usage) (weights : List ℕ) (n room : ℕ) (file : List ℕ) → buildOf usage weights n room ≡ gives file →
-    matrixOf file ≡ gives (built usage weights n)
-unfolding buildOf
-built-is usage weights n room file e =
-    let c1 = passed 3 (outside most-rows (length weights)) _ file e in
-    let c2 = passed 3 (outside most-columns n) _ file (c1 .1) in
-    let c3 = passed 11 (eqb (sum usage weights) 0) _ file (c2 .1) in
-    let c4 = passed 13 (ltb room (fileLength (length weights) n)) _ file (c3 .1) in
-    let r = within most-rows (length weights) (c1 .0) in
-    let c = within most-columns n (c2 .0) in
-    let z : 0 < sum usage weights = omega (arith, eqb-false (sum usage weights) 0 (c3 .0)) in
-    rw (← gives-inj (c4 .1)) (write-read (built usage weights n) (built-accepted usage weights n (r .0) (r .1) (c .0) (c .1) z))
-
--- It reads as that matrix, into any buffer with room for its entries.
-pub build-then-read : (usage : Usage) (weights : List ℕ) (n room : ℕ) (file : List ℕ) (space : ℕ) →
-    buildOf usage weights n room ≡ gives file → length weights * n ≤ space → readOf file space ≡ gives (built usage weights n)
-unfolding built
-build-then-read usage weights n room file space e h =
-    read-room file space (built usage weights n) (built-is usage weights n room file e) h

@@ -1,11 +1,10 @@
 // Whether a matrix's rows sum to at most 2^n, with no number larger than the rows (01, "Misreadings to shut out": not in 64 bits).
 ghost use mathlib.Core.Path.{_≡_};
-ghost use Prim.Native.Nat.{ℕ, min, _+_, _*_, _/_, _^_, _≤_, _<_};
-ghost use lib.Dec.{leb};
+ghost use Prim.Native.Nat.{ℕ, _+_, _*_, _/_, _≤_, _<_};
 ghost use lib.ListN.{length};
 ghost use Rattle.laws.specs.Sums.{sumTo};
-ghost use Rattle.files.specs.Fields.{packedBit};
-ghost use Rattle.files.specs.Live.{strided, total-from};
+ghost use Rattle.files.specs.Live.{rowsFit, strided};
+use fields::lesser;
 
 // How many of the m bytes at first, first + stride, .. have bit `shift` set.
 fn ones(bytes: &[u8], first: usize, stride: usize, m: usize, shift: usize) -> usize
@@ -19,18 +18,13 @@ fn ones(bytes: &[u8], first: usize, stride: usize, m: usize, shift: usize) -> us
     n
 }
 
-// The smaller of the two.
-fn least(a: usize, b: usize) -> usize
-    ensures { λ r. ⌜ r ≡ min a b ⌝ }
-{
-    if b < a { b } else { a }
-}
-
-// Whether T is at most 2^n, of m rows of n bits that are packed `per` to a byte, row v from byte v * stride on. After each column h is the smaller
-// of m and the number of places of the tree that are still open; a column with more ones than there are places has no room.
+// Whether T is at most 2^n, of m rows of n bits that are packed `per` to a byte, row v from byte v * stride on. After each column h is
+// the smaller of m and the number of places of the tree that are still open; a column with more ones than there are places has no room.
 pub(crate) fn fits(bytes: &[u8], per: usize, stride: usize, m: usize, n: usize) -> bool
-    requires { ⌜ (0 < per) × (per ≤ 8) × (1 ≤ m) × (m ≤ 65535) × ((v c : ℕ) → v < m → c < n → c / per + v * stride < length (now bytes)) ⌝ }
-    ensures { λ r. ⌜ r ≡ leb (total-from (λ v. packedBit per (now (bytes .entry)) (v * stride)) m 0 n) (2 ^ n) ⌝ }
+    requires { ⌜ (
+        (0 < per) × (per ≤ 8) × (1 ≤ m) × (m ≤ 65535) × ((v c : ℕ) → v < m → c < n → c / per + v * stride < length (now bytes))
+        ) ⌝ }
+    ensures { λ r. ⌜ r ≡ rowsFit (now (bytes .entry)) per stride m n ⌝ }
 {
     let mut h: usize = 1;
     for c in 0..n {
@@ -38,7 +32,7 @@ pub(crate) fn fits(bytes: &[u8], per: usize, stride: usize, m: usize, n: usize) 
         if 2 * h < w {
             return false;
         }
-        h = least(2 * h - w, m);
+        h = lesser(2 * h - w, m);
     }
     true
 }

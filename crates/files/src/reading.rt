@@ -1,66 +1,21 @@
 // Matrix files: checking and reading (01, "Files").
 ghost use mathlib.Core.Path.{_≡_};
-ghost use Prim.Native.Nat.{_+_, _*_, _≤_, _<_};
+ghost use Prim.Native.Nat.{_+_, _*_, _≤_};
 ghost use lib.ListN.{length};
-ghost use Rattle.laws.specs.Lay.{blocks, lay, layAt, upto};
+ghost use Rattle.laws.specs.Lists.{blocks, upto};
+ghost use Rattle.laws.specs.Lay.{lay, layAt};
 ghost use Rattle.laws.specs.Outcome.{laid, mapped};
-ghost use Rattle.files.specs.Fields.{bitOf, width};
-ghost use Rattle.files.specs.Matrix.{Matrix, sizes};
-ghost use Rattle.files.specs.Files.{bodyOf, checked, headerOf, matrixOf, readOf, Whole};
-use crate::fields::bit;
-use crate::fields::field;
-use crate::fields::width;
+ghost use Rattle.fields.specs.Fields.{bitOf, width};
+ghost use Rattle.files.specs.Matrix.{sizes};
+ghost use Rattle.files.specs.Files.{bodyOf, checked, matrixOf, readOf, Whole};
+use crate::headers::Checked;
+use crate::headers::read_header;
 use crate::live::fits;
-use crate::packing::any_spare;
-use crate::refusals::Refusal;
-
-// The largest number of rows and of columns.
-pub const ROWS: usize = 128;
-
-pub const COLUMNS: usize = 128;
-
-// A refusal, or the sizes of a matrix.
-pub enum Checked {
-    Refused(Refusal),
-    Matrix { rows: usize, columns: usize },
-}
-
-// The header's checks, 1 to 4.
-fn header(file: &[u8]) -> Checked
-    ensures { λ r. ⌜ checked r ≡ headerOf (now (file .entry)) ⌝ }
-{
-    if file.len() < 8 {
-        return Checked::Refused(Refusal::Short);
-    }
-    let length = field(file, 0);
-    if file.len() < length {
-        return Checked::Refused(Refusal::Short);
-    }
-    if field(file, 2) != 32 {
-        return Checked::Refused(Refusal::Kind);
-    }
-    let rows = field(file, 4);
-    if rows < 1 {
-        return Checked::Refused(Refusal::Size);
-    }
-    if ROWS < rows {
-        return Checked::Refused(Refusal::Size);
-    }
-    let columns = field(file, 6);
-    if columns < 1 {
-        return Checked::Refused(Refusal::Size);
-    }
-    if COLUMNS < columns {
-        return Checked::Refused(Refusal::Size);
-    }
-    if length != 8 + rows * width(columns) {
-        return Checked::Refused(Refusal::Length);
-    }
-    if file.len() != length {
-        return Checked::Refused(Refusal::Length);
-    }
-    Checked::Matrix { rows, columns }
-}
+use fields::Refusal;
+use fields::Strings;
+use fields::bit;
+use fields::check_strings;
+use fields::width;
 
 // The checks of the rows, 5 and 6, of a file whose header has passed.
 fn body(file: &[u8], rows: usize, columns: usize) -> Checked
@@ -68,21 +23,22 @@ fn body(file: &[u8], rows: usize, columns: usize) -> Checked
     ensures { λ r. ⌜ checked r ≡ mapped sizes (bodyOf (now (file .entry)) (record { rows = rows; columns = columns })) ⌝ }
 {
     let bytes = &file[8..];
-    if any_spare(bytes, rows, columns) {
-        return Checked::Refused(Refusal::Bit);
+    match check_strings(rows, columns, bytes) {
+        Strings::Refused(why) => Checked::Refused(why),
+        Strings::Sound => {
+            if !fits(bytes, 8, width(columns), rows, columns) {
+                return Checked::Refused(Refusal::Sum);
+            }
+            Checked::Matrix { rows, columns }
+        }
     }
-    let w = width(columns);
-    if !fits(bytes, 8, w, rows, columns) {
-        return Checked::Refused(Refusal::Sum);
-    }
-    Checked::Matrix { rows, columns }
 }
 
 // Checks a matrix file: its rows and columns, or refusal 1 to 6.
 pub fn check(file: &[u8]) -> Checked
     ensures { λ r. ⌜ checked r ≡ mapped sizes (matrixOf (now (file .entry))) ⌝ }
 {
-    match header(file) {
+    match read_header(file) {
         Checked::Refused(why) => Checked::Refused(why),
         Checked::Matrix { rows, columns } => body(file, rows, columns),
     }
@@ -101,7 +57,10 @@ fn unpack_row(bytes: &[u8], at: usize, n: usize, entries: &mut [u8], to: usize)
 // Lays m packed rows of n bits into `entries`, row after row.
 fn unpack(bytes: &[u8], m: usize, n: usize, entries: &mut [u8])
     requires { ⌜ m * n ≤ length (now entries) ⌝ }
-    ensures { λ _. ⌜ now (entries .exit) ≡ layAt 0 (blocks m (λ v. upto n (bitOf (now (bytes .entry)) (v * width n)))) (now (entries .entry)) ⌝ }
+    ensures { λ _. ⌜ (
+        now (entries .exit) ≡
+        layAt 0 (blocks m (λ v. upto n (bitOf (now (bytes .entry)) (v * width n)))) (now (entries .entry))
+        ) ⌝ }
 {
     let w = width(n);
     for v in 0..m {
@@ -112,8 +71,10 @@ fn unpack(bytes: &[u8], m: usize, n: usize, entries: &mut [u8])
 // Reads a matrix file: its rows and columns, with its entries laid row after row at the front of `entries`; or refusal 1 to 6, then 13 for
 // `entries`.
 pub fn read(file: &[u8], entries: &mut [u8]) -> Checked
-    ensures { λ r. ⌜ checked r ≡ mapped sizes (readOf (now (file .entry)) (length (now (entries .entry)))) ⌝ }
-    ensures { λ r. ⌜ now (entries .exit) ≡ lay (laid (λ M. M .entries) (readOf (now (file .entry)) (length (now (entries .entry))))) (now (entries .entry)) ⌝ }
+    ensures { λ r. ⌜ (
+        let o = readOf (now (file .entry)) (length (now (entries .entry))) in
+        (checked r ≡ mapped sizes o) × (now (entries .exit) ≡ lay (laid (λ M. M .entries) o) (now (entries .entry)))
+        ) ⌝ }
 {
     match check(file) {
         Checked::Refused(why) => Checked::Refused(why),

@@ -1,32 +1,28 @@
 // Matrix files: writing (01, "Files").
 ghost use mathlib.Core.Path.{_≡_};
+ghost use mathlib.Core.Bool.{false};
 ghost use Prim.Native.Nat.{ℕ, _+_, _*_, _≤_, _<_};
-ghost use lib.Dec.{ltb};
 ghost use lib.ListN.{length, getD};
-ghost use Rattle.laws.specs.Sums.{any};
 ghost use Rattle.laws.specs.Digits.{number};
-ghost use Rattle.laws.specs.Lay.{blocks, lay, layAt};
+ghost use Rattle.laws.specs.Lists.{blocks};
+ghost use Rattle.laws.specs.Lay.{lay, layAt};
 ghost use Rattle.laws.specs.Outcome.{laid, mapped};
-ghost use Rattle.files.specs.Fields.{packed, padded, width};
-ghost use Rattle.files.specs.Matrix.{most-columns, most-rows};
-ghost use Rattle.files.specs.Files.{headerBytes, writeOf, written};
-use crate::fields::put_field;
-use crate::fields::width;
+ghost use Rattle.fields.specs.Refusal.{written};
+ghost use Rattle.fields.specs.Limits.{most-columns};
+ghost use Rattle.fields.specs.Fields.{packed, padded, width};
+ghost use Rattle.files.specs.Matrix.{most-rows};
+ghost use Rattle.files.specs.Files.{aboveOne, writeOf};
+use crate::headers::sizes_outside;
+use crate::headers::write_header;
 use crate::live::fits;
-use crate::reading::COLUMNS;
-use crate::reading::ROWS;
-use crate::refusals::Refusal;
-
-// A refusal, or the number of bytes written.
-pub enum Written {
-    Refused(Refusal),
-    Length(usize),
-}
+use fields::Refusal;
+use fields::Written;
+use fields::width;
 
 // Whether any of the first n entries is neither 0 nor 1.
 fn any_above_one(entries: &[u8], n: usize) -> bool
     requires { ⌜ n ≤ length (now entries) ⌝ }
-    ensures { λ r. ⌜ r ≡ any n (λ i. ltb 1 (getD (now (entries .entry)) i 0)) ⌝ }
+    ensures { λ r. ⌜ r ≡ aboveOne n (now (entries .entry)) ⌝ }
 {
     for i in 0..n {
         if 1 < entries[i] {
@@ -34,17 +30,6 @@ fn any_above_one(entries: &[u8], n: usize) -> bool
         }
     }
     false
-}
-
-// Lays the header of a file of m rows and n columns at the front of `file`.
-pub(crate) fn put_header(file: &mut [u8], m: usize, n: usize)
-    requires { ⌜ (8 ≤ length (now file)) × (m ≤ most-rows) × (n ≤ most-columns) ⌝ }
-    ensures { λ _. ⌜ now (file .exit) ≡ layAt 0 (headerBytes m n) (now (file .entry)) ⌝ }
-{
-    put_field(file, 0, 8 + m * width(n));
-    put_field(file, 2, 32);
-    put_field(file, 4, m);
-    put_field(file, 6, n);
 }
 
 // Entry c of the n that begin at place `from`; 0 from n on.
@@ -69,7 +54,10 @@ fn pack_byte(entries: &[u8], from: usize, n: usize, q: usize) -> u8
 
 // Lays the n entries from place `from` on, packed, into `file` from byte `at` on.
 fn pack_row(entries: &[u8], from: usize, n: usize, file: &mut [u8], at: usize)
-    requires { ⌜ (from + n ≤ length (now entries)) × (n ≤ most-columns) × (at + width n ≤ length (now file)) × ((i : ℕ) → i < n → getD (now entries) (from + i) 0 ≤ 1) ⌝ }
+    requires { ⌜ (
+        (from + n ≤ length (now entries)) × (n ≤ most-columns) × (at + width n ≤ length (now file)) ×
+        ((i : ℕ) → i < n → getD (now entries) (from + i) 0 ≤ 1)
+        ) ⌝ }
     ensures { λ _. ⌜ now (file .exit) ≡ layAt at (packed n (λ i. getD (now (entries .entry)) (from + i) 0)) (now (file .entry)) ⌝ }
 {
     let w = width(n);
@@ -80,8 +68,14 @@ fn pack_row(entries: &[u8], from: usize, n: usize, file: &mut [u8], at: usize)
 
 // Lays m rows of n entries, packed, behind the header of `file`.
 fn pack_rows(entries: &[u8], m: usize, n: usize, file: &mut [u8])
-    requires { ⌜ (m ≤ most-rows) × (n ≤ most-columns) × (m * n ≤ length (now entries)) × (8 + m * width n ≤ length (now file)) × ((i : ℕ) → i < m * n → getD (now entries) i 0 ≤ 1) ⌝ }
-    ensures { λ _. ⌜ now (file .exit) ≡ layAt 8 (blocks m (λ v. packed n (λ i. getD (now (entries .entry)) (v * n + i) 0))) (now (file .entry)) ⌝ }
+    requires { ⌜ (
+        (m ≤ most-rows) × (n ≤ most-columns) × (m * n ≤ length (now entries)) × (8 + m * width n ≤ length (now file)) ×
+        (aboveOne (m * n) (now entries) ≡ false)
+        ) ⌝ }
+    ensures { λ _. ⌜ (
+        now (file .exit) ≡
+        layAt 8 (blocks m (λ v. packed n (λ i. getD (now (entries .entry)) (v * n + i) 0))) (now (file .entry))
+        ) ⌝ }
 {
     let w = width(n);
     for v in 0..m {
@@ -89,22 +83,15 @@ fn pack_rows(entries: &[u8], m: usize, n: usize, file: &mut [u8])
     }
 }
 
-// Writes the file of the matrix of `rows` rows and `columns` columns that stands row after row in `entries`, at the front of `file`, and answers
-// its length; or refusal 3, 13 for `entries`, 5, 6, then 13 for `file`.
+// Writes the file of the matrix of `rows` rows and `columns` columns that stands row after row in `entries`, at the front of `file`, and
+// answers its length; or refusal 3, 13 for `entries`, 5, 6, then 13 for `file`.
 pub fn write(rows: usize, columns: usize, entries: &[u8], file: &mut [u8]) -> Written
-    ensures { λ r. ⌜ written r ≡ mapped length (writeOf rows columns (now (entries .entry)) (length (now (file .entry)))) ⌝ }
-    ensures { λ r. ⌜ now (file .exit) ≡ lay (laid (λ bytes. bytes) (writeOf rows columns (now (entries .entry)) (length (now (file .entry))))) (now (file .entry)) ⌝ }
+    ensures { λ r. ⌜ (
+        let o = writeOf rows columns (now (entries .entry)) (length (now (file .entry))) in
+        (written r ≡ mapped length o) × (now (file .exit) ≡ lay (laid (λ bytes. bytes) o) (now (file .entry)))
+        ) ⌝ }
 {
-    if rows < 1 {
-        return Written::Refused(Refusal::Size);
-    }
-    if ROWS < rows {
-        return Written::Refused(Refusal::Size);
-    }
-    if columns < 1 {
-        return Written::Refused(Refusal::Size);
-    }
-    if COLUMNS < columns {
+    if sizes_outside(rows, columns) {
         return Written::Refused(Refusal::Size);
     }
     if entries.len() < rows * columns {
@@ -116,11 +103,11 @@ pub fn write(rows: usize, columns: usize, entries: &[u8], file: &mut [u8]) -> Wr
     if !fits(entries, 1, columns, rows, columns) {
         return Written::Refused(Refusal::Sum);
     }
-    let length = 8 + rows * width(columns);
-    if file.len() < length {
-        return Written::Refused(Refusal::Buffer);
+    match write_header(rows, columns, file) {
+        Written::Refused(why) => Written::Refused(why),
+        Written::Length(length) => {
+            pack_rows(entries, rows, columns, file);
+            Written::Length(length)
+        }
     }
-    put_header(file, rows, columns);
-    pack_rows(entries, rows, columns, file);
-    Written::Length(length)
 }

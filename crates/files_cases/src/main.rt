@@ -1,8 +1,8 @@
 // 01, "Checked by hand": 128 rows are accepted, 129 are refusal 3; as a file that is read, as entries that are written, and as weights.
+use fields::Written;
 use files::Checked;
-use files::Usage;
-use files::Written;
 use libc::STDOUT_FILENO;
+use weights::Usage;
 
 fn print_refusal(number: u32) {
     io::write_all(STDOUT_FILENO, b"refused ");
@@ -12,7 +12,7 @@ fn print_refusal(number: u32) {
 
 fn print_checked(answer: Checked) {
     match answer {
-        Checked::Refused(why) => print_refusal(files::number(why)),
+        Checked::Refused(why) => print_refusal(fields::number(why)),
         Checked::Matrix { rows, columns } => {
             io::print_decimal(STDOUT_FILENO, rows as u64);
             io::write_all(STDOUT_FILENO, b" rows, ");
@@ -24,7 +24,7 @@ fn print_checked(answer: Checked) {
 
 fn print_written(answer: Written) {
     match answer {
-        Written::Refused(why) => print_refusal(files::number(why)),
+        Written::Refused(why) => print_refusal(fields::number(why)),
         Written::Length(length) => {
             io::print_decimal(STDOUT_FILENO, length as u64);
             io::write_all(STDOUT_FILENO, b" bytes\n");
@@ -59,9 +59,9 @@ fn write_cases() {
 fn build_cases() {
     let weights = [1u32; 129];
     let mut file = [0u8; 136];
-    print_written(files::build(&weights[..128], 8, Usage::Plain, &mut file));
+    print_written(weights::build(&weights[..128], 8, Usage::Plain, &mut file));
     print_checked(files::check(&file));
-    print_written(files::build(&weights, 8, Usage::Plain, &mut file));
+    print_written(weights::build(&weights, 8, Usage::Plain, &mut file));
 }
 
 fn main() {

@@ -12,20 +12,25 @@ use lib.IntN.{ℤ, pos, negℤ, natAbs}
 use lib.Pow.{pow-mono}
 use lib.ListN.{length, getD, drop, length-take, length-drop, List·getD-eq-default}
 use lib.Seq.{getD-take, getD-drop}
+use Rattle.laws.specs.Tests.{lt-or-ge}
 use Rattle.laws.specs.Sums.{any, any-false, any-all}
 use Rattle.laws.specs.Digits.{number, digit, number-shift}
 use Rattle.laws.specs.Words.{bitAt, pack, bitAt-lt, bitAt-zero, bitAt-pack, pack-bits, pack-eq, pack-lt}
-use Rattle.laws.specs.Places.{lt-or-ge, row-end}
-use Rattle.laws.specs.Lay.{lay, upto, length-upto, getD-upto, at-front}
+use Rattle.laws.specs.Lists.{row-end, upto, length-upto, getD-upto}
+use Rattle.laws.specs.Lay.{lay, at-front}
 use Rattle.laws.specs.Outcome.{gives, refuse, _>>_, gives-inj, laid, mapped, mapped-gives, passed, refuse-gives, then-gives}
-use Rattle.files.specs.Fields.{bitOf, packedBit, bit-le, spare, width}
-use Rattle.files.specs.Matrix.{outside, most-columns}
-use Rattle.files.specs.Strings.{stringsOf}
+use Rattle.fields.specs.Fields.{bitOf, packedBit, bit-le, spare, width}
+use Rattle.fields.specs.Limits.{outside, most-columns}
+use Rattle.fields.specs.Strings.{stringsOf}
 use Rattle.programs.specs.Limits.{most-outputs}
 use Rattle.walk.specs.Walk.{Answer, sample, missed}
 use Rattle.lanes.specs.Slicing.{lanes, sliceOf, stringAt, wordOf}
-use Rattle.lanes.specs.Samples.{code, eachLane, hits, sampleOf, sampled, samplesOf, signedCode, signedSamplesOf, spelled}
+use Rattle.lanes.specs.Samples.{code, eachLane, laneHits, sampleOf, sampled, samplesOf, signedCode, signedSamplesOf, spelled}
 use Rattle.lanes.specs.declared.sampling.Sampled.the-variants as Sampled
+
+-- element i of a list that is laid at the front
+laid-at : {A : Type 0} (n : ℕ) (f : ℕ → A) (buf : List A) (i : ℕ) (d : A) → i < n → getD (lay (upto n f) buf) i d ≡ f i
+laid-at n f buf i d h = at-front (upto n f) buf i d (omega (arith, length-upto n f)) ∙ getD-upto n f i d h
 
 -- ---- slicing
 -- bit j of word i is bit i of string j
@@ -62,13 +67,7 @@ module _ (n : ℕ) (strings buf : List ℕ) (k : ℕ) (e : gives k ≡ mapped le
   slice-lane i j h l =
       let g = mapped-gives length (sliceOf n strings (length buf)) k e in
       let c = cut n strings (length buf) (g .0) (g .1) in
-      rw (
-        g .1,
-        c .is,
-        at-front (upto n (wordOf strings (width n))) buf i 0 (omega (arith, length-upto n (wordOf strings (width n)))),
-        getD-upto n (wordOf strings (width n)) i 0 h,
-      )
-      (lane-of-word strings (width n) i j l)
+      rw (g .1, c .is, laid-at n (wordOf strings (width n)) buf i 0 h) (lane-of-word strings (width n) i j l)
 
 -- string j by itself has the bits that lane j carries
 pub string-bit : (n : ℕ) (strings : List ℕ) (j i : ℕ) → i < 8 * width n → bitOf (stringAt n strings j) 0 i ≡ bitOf strings (j * width n) i
@@ -100,7 +99,8 @@ string-sound n strings j h e =
     let c1 = passed 3 (outside most-columns n) _ tt e in
     let c2 = passed 13 (ltb (length strings) (lanes * width n)) _ tt (c1 .1) in
     let c3 = refuse-gives 5 (any lanes (λ v. spare strings n (v * width n))) tt (c2 .1) in
-    let long : length (stringAt n strings j) ≡ width n = length-string n strings j h (ltb-false (length strings) (lanes * width n) (c2 .0)) in
+    let long : length (stringAt n strings j) ≡ width n =
+    length-string n strings j h (ltb-false (length strings) (lanes * width n) (c2 .0)) in
     let clear : any 1 (λ v. spare (stringAt n strings j) n (v * width n)) ≡ false =
     any-all 1 (λ v. spare (stringAt n strings j) n (v * width n))
     (λ v l. string-spare n strings j v l ∙ any-false lanes j (λ v. spare strings n (v * width n)) c3 h) in
@@ -109,12 +109,12 @@ string-sound n strings j h e =
 -- ---- samples
 -- A lane misses where its bit of output 0 is clear. It gives v where that is set and its bits of outputs 1 and up are v's, lowest first.
 pub lane-clear : (outputs : List ℕ) (j : ℕ) → bitAt (getD outputs 0 0) j ≡ 0 → sampleOf outputs j ≡ missed
-unfolding sampleOf hits
+unfolding sampleOf laneHits
 lane-clear outputs j h = rw h
 
 pub lane-spells : (outputs : List ℕ) (j v : ℕ) → bitAt (getD outputs 0 0) j ≡ 1 → v < 2 ^ (length outputs - 1) →
     ((t : ℕ) → t < length outputs - 1 → bitAt (getD outputs (t + 1) 0) j ≡ bitAt v t) → sampleOf outputs j ≡ sample v
-unfolding sampleOf hits spelled
+unfolding sampleOf laneHits spelled
 lane-spells outputs j v h l e =
     rw h
     (ap sample (pack-eq (length outputs - 1) (λ t. bitAt (getD outputs (t + 1) 0) j) (bitAt v) e ∙ pack-bits (length outputs - 1) v l))
@@ -122,7 +122,7 @@ lane-spells outputs j v h l e =
 -- What a lane gives depends on that lane's bits alone, wherever the lane lies and whatever the others hold.
 pub same-lane : (a b : List ℕ) (i j : ℕ) → length a ≡ length b → ((t : ℕ) → t < length a → bitAt (getD a t 0) i ≡ bitAt (getD b t 0) j) →
     sampleOf a i ≡ sampleOf b j
-unfolding sampleOf hits spelled
+unfolding sampleOf laneHits spelled
 same-lane a b i j len e =
     rw (each 0, pack-eq (length a - 1) (λ t. bitAt (getD a (t + 1) 0) i) (λ t. bitAt (getD b (t + 1) 0) j) (λ t l. each (t + 1)), len)
   where
@@ -136,23 +136,22 @@ same-lane a b i j len e =
 -- what reading that gives numbers leaves in the buffer
 module _ {A : Type 0} (outputs : List ℕ) (buf : List A) (f : ℕ → A)
     (e : sampled Sampled.All ≡ mapped (λ xs. tt) (eachLane outputs (length buf) f)) where
-  lanes-given : eachLane outputs (length buf) f ≡ gives (upto lanes f)
-  unfolding eachLane
-  lanes-given =
-      let g = mapped-gives (λ xs. tt {0}) (eachLane outputs (length buf) f) tt e in
-      let c1 = passed 3 (outside most-outputs (length outputs)) (refuse 13 (ltb (length buf) lanes) >> gives (upto lanes f)) (g .0) (g .1) in
-      let c2 = passed 13 (ltb (length buf) lanes) (gives (upto lanes f)) (g .0) (c1 .1) in
-      g .1 ∙ sym (c2 .1)
-
   lane-read : (j : ℕ) (d : A) → j < lanes → getD (lay (laid (λ xs. xs) (eachLane outputs (length buf) f)) buf) j d ≡ f j
-  lane-read j d h = rw (lanes-given, at-front (upto lanes f) buf j d (omega (arith, length-upto lanes f))) (getD-upto lanes f j d h)
+  unfolding eachLane
+  lane-read j d h =
+      let g = mapped-gives (λ xs. tt {0}) (eachLane outputs (length buf) f) tt e in
+      let c1 = passed 3 (outside most-outputs (length outputs)) _ (g .0) (g .1) in
+      let c2 = passed 13 (ltb (length buf) lanes) (gives (upto lanes f)) (g .0) (c1 .1) in
+      rw (c1 .0, c2 .0) (laid-at lanes f buf j d h)
 
 -- Where lane j of the outputs gives g, sample j is g's code; and with a sign word, its signed code.
 pub samples-say : (outputs buf : List ℕ) → sampled Sampled.All ≡ mapped (λ xs. tt) (samplesOf outputs (length buf)) →
-    (j : ℕ) (g : Answer) → j < lanes → sampleOf outputs j ≡ g → getD (lay (laid (λ xs. xs) (samplesOf outputs (length buf))) buf) j 0 ≡ code g
+    (j : ℕ) (g : Answer) → j < lanes → sampleOf outputs j ≡ g →
+    getD (lay (laid (λ xs. xs) (samplesOf outputs (length buf))) buf) j 0 ≡ code g
 samples-say outputs buf e j g h q = lane-read outputs buf (λ j. code (sampleOf outputs j)) e j 0 h ∙ ap code q
 
-pub signed-say : (outputs : List ℕ) (sign : ℕ) (buf : List ℤ) → sampled Sampled.All ≡ mapped (λ xs. tt) (signedSamplesOf outputs sign (length buf)) →
+pub signed-say : (outputs : List ℕ) (sign : ℕ) (buf : List ℤ) →
+    sampled Sampled.All ≡ mapped (λ xs. tt) (signedSamplesOf outputs sign (length buf)) →
     (j : ℕ) (g : Answer) → j < lanes → sampleOf outputs j ≡ g →
     getD (lay (laid (λ xs. xs) (signedSamplesOf outputs sign (length buf))) buf) j (pos 0) ≡ signedCode (bitAt sign j) g
 signed-say outputs sign buf e j g h q =
@@ -177,7 +176,7 @@ Small missed = Unit {0}
 
 pub given-small : (outputs : List ℕ) (j : ℕ) → length outputs ≤ most-outputs → Small (sampleOf outputs j)
 unfolding sampleOf spelled
-given-small outputs j h = either (hits outputs j)
+given-small outputs j h = either (laneHits outputs j)
   where
     f : ℕ → ℕ
     f t = bitAt (getD outputs (t + 1) 0) j

@@ -1,6 +1,6 @@
 -- 01, "Runs, words, samples": what a lane of the outputs gives, and how samples and signed samples write it. Assumes nothing.
 use Prim.Native.Nat.{ℕ, zero, suc, _+_, _-_, _*_, _%_, _^_, _≤_, _<_}
-use mathlib.Core.Path.{_≡_, _∙_}
+use mathlib.Core.Path.{_≡_, refl, ap, _∙_}
 use mathlib.Core.Bool.{Bool, true, false, cond}
 use mathlib.Core.List.{List}
 use native.Mathlib.Omega.{arith}
@@ -13,10 +13,11 @@ use lib.Dec.{eqb, ltb, lit<}
 use lib.IntN.{ℤ, pos, negℤ, _-ℤ_, +ℤ-idl}
 use lib.ListN.{length, getD}
 use Rattle.laws.specs.Words.{bitAt, pack, Packed, packed-more, packed-done}
-use Rattle.laws.specs.Lay.{upto}
-use Rattle.laws.specs.Outcome.{Outcome, refused, gives, refuse, _>>_}
-use Rattle.files.specs.Matrix.{outside}
-use Rattle.files.specs.Refusal.{numberOf}
+use Rattle.laws.specs.Lists.{upto}
+use Rattle.laws.specs.Lay.{lay, lay-is, Laid, upto-done}
+use Rattle.laws.specs.Outcome.{Outcome, refused, gives, refuse, mapped, laid, _>>_, ends-refused, ends-given}
+use Rattle.fields.specs.Limits.{outside, inside, outside-below, outside-above}
+use Rattle.fields.specs.Refusal.{numberOf}
 use Rattle.programs.specs.Limits.{most-outputs}
 use Rattle.walk.specs.Walk.{Answer, sample, missed}
 use Rattle.lanes.specs.Slicing.{lanes}
@@ -24,8 +25,8 @@ use Rattle.lanes.specs.declared.sampling.Sampled.{Sampled}
 use Rattle.lanes.specs.declared.sampling.Sampled.the-variants as Sampled
 
 -- whether bit j of output 0 is set
-unfoldable pub hits : List ℕ → ℕ → Bool
-hits outputs j = eqb (bitAt (getD outputs 0 0) j) 1
+unfoldable pub laneHits : List ℕ → ℕ → Bool
+laneHits outputs j = eqb (bitAt (getD outputs 0 0) j) 1
 
 -- the number that bit j of outputs 1 and up spells, lowest first
 unfoldable pub spelled : List ℕ → ℕ → ℕ
@@ -33,7 +34,7 @@ spelled outputs j = pack (length outputs - 1) (λ t. bitAt (getD outputs (t + 1)
 
 -- If bit j of output 0 is set, lane j gives the sample that bit j of outputs 1 and up spells; if not, it misses.
 unfoldable pub sampleOf : List ℕ → ℕ → Answer
-sampleOf outputs j = cond (hits outputs j) (sample (spelled outputs j)) missed
+sampleOf outputs j = cond (laneHits outputs j) (sample (spelled outputs j)) missed
 
 -- as a sample: the number, or 255
 abbrev pub code : Answer → ℕ
@@ -83,9 +84,37 @@ module _ {A : Type 0} (outputs : List ℕ) (room : ℕ) (number : ℕ → A) whe
   unfolding eachLane
   lanes-give a b = rw (a, le-ltb room lanes b)
 
+-- the ways in which code that reads each lane ends: its answer, and what the buffer then holds
+module _ {A : Type 0} (outputs : List ℕ) (buf : List A) (number : ℕ → A) where
+  abbrev pub Ends : Outcome (Unit {0}) → List A → Type 0
+  Ends answer now =
+      let o = eachLane outputs (length buf) number in
+      (answer ≡ mapped (λ xs. tt) o) × (now ≡ lay (laid (λ xs. xs) o) buf)
+
+  stops : (n : ℕ) → eachLane outputs (length buf) number ≡ refused n → Ends (refused n) buf
+  stops n e = ends-refused (λ xs. tt) (λ xs. xs) n (eachLane outputs (length buf) number) buf e
+
+  pub reads-none : length outputs < 1 → Ends (refused 3) buf
+  reads-none a = stops 3 (lanes-size outputs (length buf) number (outside-below most-outputs (length outputs) a))
+
+  module _ (a : 1 ≤ length outputs) where
+    pub reads-many : most-outputs < length outputs → Ends (refused 3) buf
+    reads-many b = stops 3 (lanes-size outputs (length buf) number (outside-above most-outputs (length outputs) a b))
+
+    module _ (b : length outputs ≤ most-outputs) where
+      pub reads-short : length buf < lanes → Ends (refused 13) buf
+      reads-short c = stops 13 (lanes-short outputs (length buf) number (inside most-outputs (length outputs) a b) c)
+
+      pub reads-all : lanes ≤ length buf → (j : ℕ) (now : List A) → j ≤ lanes → lanes ≤ j → Laid 0 (upto j number) buf now →
+          Ends (gives tt) now
+      reads-all c j now d e l =
+          ends-given (λ xs. tt) (λ xs. xs) (upto lanes number) tt (eachLane outputs (length buf) number) buf now
+          (lanes-give outputs (length buf) number (inside most-outputs (length outputs) a b) c) refl
+          (upto-done 0 j lanes number buf now d e l ∙ lay-is (upto lanes number) buf)
+
 -- ---- a lane as code reads it
-pub hit-read : (outputs : List ℕ) (j bit : ℕ) → bit ≡ bitAt (getD outputs 0 0) j → eqb bit 1 ≡ hits outputs j
-unfolding hits
+pub hit-read : (outputs : List ℕ) (j bit : ℕ) → bit ≡ bitAt (getD outputs 0 0) j → eqb bit 1 ≡ laneHits outputs j
+unfolding laneHits
 hit-read outputs j bit e = rw e
 
 -- the number is packed of the outputs from 1 to t - 1
@@ -104,23 +133,21 @@ module _ (outputs : List ℕ) (j : ℕ) where
   unfolding spelled
   number-done t x a b p = packed-done bits (t - 1) (length outputs - 1) x (omega arith) (omega arith) p
 
-module _ (outputs : List ℕ) (j : ℕ) (hit : Bool) (e : hit ≡ hits outputs j) where
-  pub code-hit : (x : ℕ) → hit ≡ true → x ≡ spelled outputs j → x ≡ code (sampleOf outputs j)
+module _ (outputs : List ℕ) (j : ℕ) (hit : Bool) (e : hit ≡ laneHits outputs j) where
+  pub lane-gives : (x : ℕ) → hit ≡ true → x ≡ spelled outputs j → sample x ≡ sampleOf outputs j
   unfolding sampleOf
-  code-hit x h q = rw (← e, h) q
+  lane-gives x h q = rw (← e, h, q)
 
-  pub code-miss : hit ≡ false → 255 ≡ code (sampleOf outputs j)
+  pub lane-misses : hit ≡ false → missed ≡ sampleOf outputs j
   unfolding sampleOf
-  code-miss h = rw (← e, h)
+  lane-misses h = rw (← e, h)
 
   pub signed-hit : (sign s x : ℕ) (z : ℤ) → hit ≡ true → s ≡ bitAt sign j → x ≡ spelled outputs j → z ≡ negatedIf s x →
       z ≡ signedCode (bitAt sign j) (sampleOf outputs j)
-  unfolding sampleOf
-  signed-hit sign s x z h es ex ez = rw (← e, h, ← es, ← ex) ez
+  signed-hit sign s x z h es ex ez = rw (← lane-gives x h ex, ← es) ez
 
   pub signed-miss : (sign : ℕ) → hit ≡ false → pos 32767 ≡ signedCode (bitAt sign j) (sampleOf outputs j)
-  unfolding sampleOf
-  signed-miss sign h = rw (← e, h)
+  signed-miss sign h = ap (signedCode (bitAt sign j)) (lane-misses h)
 
 -- ---- negation in 16 bits
 -- a number that fits is kept

@@ -7,13 +7,12 @@ use borrow.Author.Tests.{lt-ltb, le-ltb, ltb-false}
 use lib.Dec.{ltb}
 use lib.ListN.{length, take, drop}
 use Rattle.laws.specs.Words.{pack, Packed, packed-done}
-use Rattle.laws.specs.Places.{row-end}
-use Rattle.laws.specs.Lay.{upto}
+use Rattle.laws.specs.Lists.{row-end, upto}
 use Rattle.laws.specs.Outcome.{Outcome, refused, gives, refuse, _>>_, passed}
-use Rattle.files.specs.Fields.{bitOf, width}
-use Rattle.files.specs.Matrix.{outside, most-columns}
-use Rattle.files.specs.Refusal.{numberOf}
-use Rattle.files.specs.Strings.{stringsOf}
+use Rattle.fields.specs.Fields.{bitOf, width}
+use Rattle.fields.specs.Limits.{outside, most-columns}
+use Rattle.fields.specs.Refusal.{numberOf}
+use Rattle.fields.specs.Strings.{stringsOf}
 use Rattle.lanes.specs.declared.slicing.Sliced.{Sliced}
 use Rattle.lanes.specs.declared.slicing.Sliced.the-variants as Sliced
 
@@ -56,7 +55,8 @@ module _ (n : ℕ) (strings : List ℕ) (room : ℕ) where
   slice-gives e h = rw (← e, le-ltb room n h)
 
 -- ---- a word as code packs it, and where string j lies
-pub word-done : (strings : List ℕ) (w i j word : ℕ) → j ≤ lanes → lanes ≤ j → Packed (λ j. bitOf strings (j * w) i) j word → word ≡ wordOf strings w i
+pub word-done : (strings : List ℕ) (w i j word : ℕ) → j ≤ lanes → lanes ≤ j → Packed (λ j. bitOf strings (j * w) i) j word →
+    word ≡ wordOf strings w i
 unfolding wordOf
 word-done strings w i j word a b p = packed-done (λ j. bitOf strings (j * w) i) j lanes word a b p
 

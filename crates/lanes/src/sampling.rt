@@ -7,9 +7,9 @@ ghost use Rattle.laws.specs.Outcome.{laid, mapped};
 ghost use Rattle.laws.specs.Words.{bitAt};
 ghost use Rattle.programs.specs.Limits.{most-outputs};
 ghost use Rattle.lanes.specs.Slicing.{lanes};
-ghost use Rattle.lanes.specs.Samples.{code, hits, negatedIf, sampled, sampleOf, samplesOf, signedCode, signedSamplesOf, spelled};
+ghost use Rattle.lanes.specs.Samples.{code, laneHits, negatedIf, sampled, sampleOf, samplesOf, signedCode, signedSamplesOf, spelled};
 use crate::slicing::LANES;
-use files::Refusal;
+use fields::Refusal;
 use programs::Program;
 
 // What stands for a miss among samples, and among signed samples.
@@ -34,7 +34,7 @@ fn lane(word: u64, j: usize) -> u8
 // Whether lane j hits: its bit of output 0.
 fn hit(outputs: &[u64], j: usize) -> bool
     requires { ⌜ (j < lanes) × (1 ≤ length (now outputs)) ⌝ }
-    ensures { λ r. ⌜ r ≡ hits (now (outputs .entry)) j ⌝ }
+    ensures { λ r. ⌜ r ≡ laneHits (now (outputs .entry)) j ⌝ }
 {
     lane(outputs[0], j) == 1
 }
@@ -86,10 +86,13 @@ fn signed_sample(outputs: &[u64], sign: u64, j: usize) -> i16
     }
 }
 
-// Reads the samples of all lanes from output words and lays them at the front of `samples`; or refusal 3 for the number of output words, then 13.
+// Reads the samples of all lanes from output words and lays them at the front of `samples`; or refusal 3 for the number of output words,
+// then 13.
 pub fn samples(outputs: &[u64], samples: &mut [u8]) -> Sampled
-    ensures { λ r. ⌜ sampled r ≡ mapped (λ xs. tt) (samplesOf (now (outputs .entry)) (length (now (samples .entry)))) ⌝ }
-    ensures { λ r. ⌜ now (samples .exit) ≡ lay (laid (λ xs. xs) (samplesOf (now (outputs .entry)) (length (now (samples .entry))))) (now (samples .entry)) ⌝ }
+    ensures { λ r. ⌜ (
+        let o = samplesOf (now (outputs .entry)) (length (now (samples .entry))) in
+        (sampled r ≡ mapped (λ xs. tt) o) × (now (samples .exit) ≡ lay (laid (λ xs. xs) o) (now (samples .entry)))
+        ) ⌝ }
 {
     if outputs.len() < 1 {
         return Sampled::Refused(Refusal::Size);
@@ -106,10 +109,13 @@ pub fn samples(outputs: &[u64], samples: &mut [u8]) -> Sampled
     Sampled::All
 }
 
-// Reads the signed samples of all lanes from output words and a sign word and lays them at the front of `samples`; refusals as for `samples`.
+// Reads the signed samples of all lanes from output words and a sign word and lays them at the front of `samples`; refusals as for
+// `samples`.
 pub fn signed_samples(outputs: &[u64], sign: u64, samples: &mut [i16]) -> Sampled
-    ensures { λ r. ⌜ sampled r ≡ mapped (λ xs. tt) (signedSamplesOf (now (outputs .entry)) sign (length (now (samples .entry)))) ⌝ }
-    ensures { λ r. ⌜ now (samples .exit) ≡ lay (laid (λ xs. xs) (signedSamplesOf (now (outputs .entry)) sign (length (now (samples .entry))))) (now (samples .entry)) ⌝ }
+    ensures { λ r. ⌜ (
+        let o = signedSamplesOf (now (outputs .entry)) sign (length (now (samples .entry))) in
+        (sampled r ≡ mapped (λ xs. tt) o) × (now (samples .exit) ≡ lay (laid (λ xs. xs) o) (now (samples .entry)))
+        ) ⌝ }
 {
     if outputs.len() < 1 {
         return Sampled::Refused(Refusal::Size);

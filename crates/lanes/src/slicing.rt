@@ -2,14 +2,15 @@
 ghost use mathlib.Core.Path.{_≡_};
 ghost use Prim.Native.Nat.{_*_, _/_, _≤_, _<_};
 ghost use lib.ListN.{length};
-ghost use Rattle.laws.specs.Lay.{lay, layAt, upto};
+ghost use Rattle.laws.specs.Lists.{upto};
+ghost use Rattle.laws.specs.Lay.{lay, layAt};
 ghost use Rattle.laws.specs.Outcome.{laid, mapped};
-ghost use Rattle.files.specs.Fields.{width};
+ghost use Rattle.fields.specs.Fields.{width};
 ghost use Rattle.lanes.specs.Slicing.{lanes, sliceOf, sliced, wordOf};
-use files::Refusal;
-use files::Strings;
-use files::check_strings;
-use files::width;
+use fields::Refusal;
+use fields::Strings;
+use fields::check_strings;
+use fields::width;
 
 // Strings that are sliced, and samples that are read, at a time: one to each bit of a word.
 pub const LANES: usize = 64;
@@ -43,11 +44,13 @@ fn put_words(strings: &[u8], n: usize, words: &mut [u64])
     }
 }
 
-// Slices 64 strings of `columns` bits, one after another at the front of `strings`, into that many words; or refusal 3, 13 for the strings, 5, then
-// 13 for the words.
+// Slices 64 strings of `columns` bits, one after another at the front of `strings`, into that many words; or refusal 3, 13 for the
+// strings, 5, then 13 for the words.
 pub fn slice(columns: usize, strings: &[u8], words: &mut [u64]) -> Sliced
-    ensures { λ r. ⌜ sliced r ≡ mapped length (sliceOf columns (now (strings .entry)) (length (now (words .entry)))) ⌝ }
-    ensures { λ r. ⌜ now (words .exit) ≡ lay (laid (λ xs. xs) (sliceOf columns (now (strings .entry)) (length (now (words .entry))))) (now (words .entry)) ⌝ }
+    ensures { λ r. ⌜ (
+        let o = sliceOf columns (now (strings .entry)) (length (now (words .entry))) in
+        (sliced r ≡ mapped length o) × (now (words .exit) ≡ lay (laid (λ xs. xs) o) (now (words .entry)))
+        ) ⌝ }
 {
     match check_strings(LANES, columns, strings) {
         Strings::Refused(why) => Sliced::Refused(why),

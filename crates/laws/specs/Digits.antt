@@ -1,12 +1,13 @@
 -- A number by its binary digits, the first digit the highest: how 01 reads a row, a byte and a string of bits. Assumes nothing.
 use Prim.Native.Nat.{ℕ, zero, suc, _+_, _-_, _*_, _/_, _%_, _^_, _≤_, _<_}
-use mathlib.Core.Path.{_≡_, refl, ap, sym, _∙_, subst}
+use mathlib.Core.Path.{_≡_, refl, ap, sym, _∙_}
 use mathlib.Core.Logic.{⊎-elim}
-use native.Mathlib.Nat.{add-zero, eq-or-lt-of-le, mod-eq-of-lt, pow-succ'}
+use native.Mathlib.Nat.{add-zero, eq-or-lt-of-le, mod-eq-of-lt, mul-le-mul-right, pow-succ'}
 use native.Mathlib.Numerals.{add-one}
 use native.Mathlib.Omega.{arith}
 use lib.Bits.{bitAnd, and-mask}
-use lib.Pow.{mod-pow-add, pow-mono}
+use lib.Pow.{high, low, mod-pow-add, pow-mono}
+use Rattle.laws.specs.Tests.{reached}
 
 -- the number whose k digits are f c, f (c + 1), ..
 unfoldable pub number : (ℕ → ℕ) → ℕ → ℕ → ℕ
@@ -33,14 +34,6 @@ number-snoc f c (suc k) =
 pub number-more : (f : ℕ → ℕ) (c k : ℕ) → number f c (k + 1) ≡ 2 * number f c k + f (c + k)
 number-more f c k = rw (add-one k) (number-snoc f c k)
 
-pub number-none : (f : ℕ → ℕ) (c : ℕ) → number f c 0 ≡ 0
-unfolding number
-number-none f c = refl
-
-pub number-first : (f : ℕ → ℕ) (c k : ℕ) → number f c (suc k) ≡ f c * 2 ^ k + number f (suc c) k
-unfolding number
-number-first f c k = refl
-
 -- the digits may be counted from elsewhere
 pub number-shift : (f g : ℕ → ℕ) (c d k : ℕ) → ((i : ℕ) → i < k → f (c + i) ≡ g (d + i)) → number f c k ≡ number g d k
 unfolding number
@@ -53,10 +46,8 @@ number-shift f g c d (suc k) e =
       number-shift f g (suc c) (suc d) k (λ i l. ap f (omega arith) ∙ (e (suc i) (omega arith) ∙ ap g (omega arith))),
     )
 
-digit-lt : (x p r : ℕ) → x ≤ 1 → r < p → x * p + r < 2 * p
-digit-lt zero p r h l = omega arith
-digit-lt (suc zero) p r h l = omega arith
-digit-lt (suc (suc x)) p r h l = absurd (omega arith)
+pub digit-lt : (x p r : ℕ) → x ≤ 1 → r < p → x * p + r < 2 * p
+digit-lt x p r h l = omega (arith, mul-le-mul-right {m = x} {n = 1} p h)
 
 pub number-lt : (f : ℕ → ℕ) (c k : ℕ) → ((i : ℕ) → c ≤ i → i < c + k → f i ≤ 1) → number f c k < 2 ^ k
 unfolding number
@@ -69,14 +60,11 @@ number-lt f c (suc k) ok =
           (number-lt f (suc c) k (λ i a b. ok i (omega arith) (omega arith))),
     ))
 
-apart : (x y p r t : ℕ) → x ≤ 1 → y ≤ 1 → r < p → t < p → x * p + r ≡ y * p + t → (x ≡ y) × (r ≡ t)
-apart zero zero p r t a b l q e = omega arith
-apart zero (suc zero) p r t a b l q e = absurd (omega arith)
-apart (suc zero) zero p r t a b l q e = absurd (omega arith)
-apart (suc zero) (suc zero) p r t a b l q e = omega arith
-apart zero (suc (suc y)) p r t a b l q e = absurd (omega arith)
-apart (suc zero) (suc (suc y)) p r t a b l q e = absurd (omega arith)
-apart (suc (suc x)) y p r t a b l q e = absurd (omega arith)
+apart : (x y k r t : ℕ) → r < 2 ^ k → t < 2 ^ k → x * 2 ^ k + r ≡ y * 2 ^ k + t → (x ≡ y) × (r ≡ t)
+apart x y k r t l q e = (
+  sym (high x k l) ∙ (ap (λ (z : ℕ). z / 2 ^ k) e ∙ high y k q),
+  sym (low x k l) ∙ (ap (λ (z : ℕ). z % 2 ^ k) e ∙ low y k q),
+)
 
 -- the number fixes its digits
 pub digits-of : (f g : ℕ → ℕ) (k c : ℕ) → ((i : ℕ) → c ≤ i → i < c + k → f i ≤ 1) → ((i : ℕ) → c ≤ i → i < c + k → g i ≤ 1) →
@@ -86,9 +74,7 @@ digits-of f g zero c okf okg e i a b = absurd (omega arith)
 digits-of f g (suc k) c okf okg e i a b =
     let okf′ : (i : ℕ) → suc c ≤ i → i < suc c + k → f i ≤ 1 = λ i a b. okf i (omega arith) (omega arith) in
     let okg′ : (i : ℕ) → suc c ≤ i → i < suc c + k → g i ≤ 1 = λ i a b. okg i (omega arith) (omega arith) in
-    let d =
-    apart (f c) (g c) (2 ^ k) (number f (suc c) k) (number g (suc c) k) (okf c (omega arith) (omega arith))
-    (okg c (omega arith) (omega arith)) (number-lt f (suc c) k okf′) (number-lt g (suc c) k okg′) e in
+    let d = apart (f c) (g c) k (number f (suc c) k) (number g (suc c) k) (number-lt f (suc c) k okf′) (number-lt g (suc c) k okg′) e in
     ⊎-elim (λ (q : c ≡ i). rw (← q) (d .0)) (λ (q : c < i). digits-of f g k (suc c) okf′ okg′ (d .1) i q (omega arith)) (eq-or-lt-of-le a)
 
 -- ---- number and digit are inverse
@@ -108,7 +94,8 @@ pub digit-number : (f : ℕ → ℕ) (c k i : ℕ) → ((i : ℕ) → c ≤ i �
 digit-number f c k i ok h =
     digits-of (digit k (number f c k)) (λ j. f (c + j)) k 0 (λ j a b. digit-le k (number f c k) j)
     (λ j a b. ok (c + j) (omega arith) (omega arith))
-    (number-digit k (number f c k) (number-lt f c k ok) ∙ number-shift f (λ j. f (c + j)) c 0 k (λ j l. ap (λ (z : ℕ). f (c + z)) (omega arith)))
+    (number-digit k (number f c k) (number-lt f c k ok) ∙
+    number-shift f (λ j. f (c + j)) c 0 k (λ j l. ap (λ (z : ℕ). f (c + z)) (omega arith)))
     i (omega arith) (omega arith)
 
 -- a mask of 1 is the rest of a division by 2
@@ -122,7 +109,8 @@ pub record Spelt (f : ℕ → ℕ) (c k x : ℕ) : Type 0 where
 
 module _ (f : ℕ → ℕ) (c : ℕ) where
   pub spelt-none : Spelt f c 0 0
-  spelt-none = record { is = sym (number-none f c); small = omega arith }
+  unfolding number
+  spelt-none = record { is = refl; small = omega arith }
 
   pub spelt-more : (k x b : ℕ) → b ≡ f (c + k) → b ≤ 1 → Spelt f c k x → Spelt f c (k + 1) (2 * x + b)
   spelt-more k x b e h s =
@@ -133,17 +121,19 @@ module _ (f : ℕ → ℕ) (c : ℕ) where
   spelt-room k n x h s = omega (arith, s .small, pow-mono {i = suc k} {j = n} h, pow-succ' 2 k)
 
   pub spelt-done : (k n x : ℕ) → k ≤ n → n ≤ k → Spelt f c k x → x ≡ number f c n
-  spelt-done k n x a b s =
-      let e : k ≡ n = omega arith in
-      subst (λ (j : ℕ). x ≡ number f c j) e (s .is)
+  spelt-done k n x a b s = reached (λ j. x ≡ number f c j) k n a b (s .is)
 
 -- ---- digits that are all 0
 pub number-zero : (f : ℕ → ℕ) (c k : ℕ) → ((i : ℕ) → i < k → f (c + i) ≡ 0) → number f c k ≡ 0
-number-zero f c k e = number-shift f (λ i. 0) c c k e ∙ zeros c k
-  where
-    zeros : (c k : ℕ) → number (λ i. 0) c k ≡ 0
-    zeros c zero = number-none (λ i. 0) c
-    zeros c (suc k) = number-first (λ i. 0) c k ∙ omega (arith, zeros (suc c) k)
+unfolding number
+number-zero f c zero e = refl
+number-zero f c (suc k) e =
+    let h : f c ≡ 0 = ap f (omega arith) ∙ e 0 (omega arith) in
+    omega (
+      arith,
+      ap (λ (x : ℕ). x * 2 ^ k) h,
+      number-zero f (suc c) k (λ i l. ap f (omega arith) ∙ e (suc i) (omega arith)),
+    )
 
 pub zero-digits : (f : ℕ → ℕ) (c k : ℕ) → ((i : ℕ) → c ≤ i → i < c + k → f i ≤ 1) → number f c k ≡ 0 → (i : ℕ) → c ≤ i → i < c + k → f i ≡ 0
 zero-digits f c k ok e = digits-of f (λ i. 0) k c ok (λ i a b. omega arith) (e ∙ sym (number-zero (λ i. 0) c k (λ i l. refl)))

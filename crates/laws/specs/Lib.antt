@@ -3,8 +3,7 @@ pub mod Tests
 pub mod Sums
 pub mod Digits
 pub mod Words
-pub mod Places
+pub mod Lists
 pub mod Lay
-pub mod Each
-pub mod From
 pub mod Outcome
+pub mod Every

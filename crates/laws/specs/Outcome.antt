@@ -1,4 +1,5 @@
--- What an operation comes to: one refusal of 01's table by its number, or a result. Checks are tried in the order in which they stand. Assumes nothing.
+-- What an operation comes to: one refusal of 01's table by its number, or a result. Checks are tried in the order in which they stand.
+-- Assumes nothing.
 use Prim.Native.Nat.{ℕ}
 use mathlib.Core.Path.{_≡_, refl, sym, ap}
 use mathlib.Core.Bool.{Bool, true, false}
@@ -44,7 +45,8 @@ gives-inj e = cc
 pub no-result : {A B : Type 0} (n : ℕ) (a : A) → refused n ≡ gives a → B
 no-result n a e = absurd (let z : _≡_ {A = ℕ} 0 1 = cc in omega arith)
 
-pub passed : {A : Type 0} (n : ℕ) (test : Bool) (rest : Outcome A) (a : A) → (refuse n test >> rest) ≡ gives a → (test ≡ false) × (rest ≡ gives a)
+pub passed : {A : Type 0} (n : ℕ) (test : Bool) (rest : Outcome A) (a : A) → (refuse n test >> rest) ≡ gives a →
+    (test ≡ false) × (rest ≡ gives a)
 passed n true rest a e = no-result n a e
 passed n false rest a e = (refl, e)
 
@@ -56,7 +58,8 @@ pub refuse-gives : (n : ℕ) (test : Bool) (u : Unit {0}) → refuse n test ≡ 
 refuse-gives n true u e = no-result n u e
 refuse-gives n false u e = refl
 
-pub then-gives : {A : Type 0} (o : Outcome (Unit {0})) (rest : Outcome A) (a : A) → (o >> rest) ≡ gives a → (o ≡ gives tt) × (rest ≡ gives a)
+pub then-gives : {A : Type 0} (o : Outcome (Unit {0})) (rest : Outcome A) (a : A) → (o >> rest) ≡ gives a →
+    (o ≡ gives tt) × (rest ≡ gives a)
 then-gives (refused n) rest a e = no-result n a e
 then-gives (gives u) rest a e = (refl, e)
 
@@ -87,12 +90,13 @@ module _ {A B : Type 0} where
   bind-is (refused n) f = refl
   bind-is (gives a) f = refl
 
-  pub bind-after : {C : Type 0} (o : Outcome A) (k : A → Outcome B) (h : B → Outcome C) (l : A → Outcome C) → ((a : A) → l a ≡ (k a >>= h)) →
-      (o >>= l) ≡ ((o >>= k) >>= h)
+  pub bind-after : {C : Type 0} (o : Outcome A) (k : A → Outcome B) (h : B → Outcome C) (l : A → Outcome C) →
+      ((a : A) → l a ≡ (k a >>= h)) → (o >>= l) ≡ ((o >>= k) >>= h)
   bind-after (refused n) k h l e = refl
   bind-after (gives a) k h l e = e a
 
-  pub then-after : (u : Outcome (Unit {0})) (k : Outcome A) (h : A → Outcome B) (l : Outcome B) → l ≡ (k >>= h) → (u >> l) ≡ ((u >> k) >>= h)
+  pub then-after : (u : Outcome (Unit {0})) (k : Outcome A) (h : A → Outcome B) (l : Outcome B) → l ≡ (k >>= h) →
+      (u >> l) ≡ ((u >> k) >>= h)
   then-after (refused n) k h l e = refl
   then-after (gives a) k h l e = e
 
@@ -117,3 +121,19 @@ module _ {A B : Type 0} where
 pub bind-gives : {A : Type 0} (o : Outcome A) → (o >>= (λ a. gives a)) ≡ o
 bind-gives (refused n) = refl
 bind-gives (gives a) = refl
+
+pub mapped-id : {A : Type 0} (o : Outcome A) → mapped (λ a. a) o ≡ o
+mapped-id (refused n) = refl
+mapped-id (gives a) = refl
+
+module _ {A B : Type 0} where
+  -- two outcomes whose results come of one result are equal where these are
+  pub mapped-same : (f g : A → B) (o : Outcome A) → ((a : A) → o ≡ gives a → f a ≡ g a) → mapped f o ≡ mapped g o
+  mapped-same f g (refused n) e = refl
+  mapped-same f g (gives a) e = ap gives (e a refl)
+
+  -- what goes on from a result of f to one of g
+  pub bind-mapped : {C : Type 0} (f : A → B) (g : A → C) (k : B → Outcome C) (o : Outcome A) →
+      ((a : A) → o ≡ gives a → k (f a) ≡ gives (g a)) → (mapped f o >>= k) ≡ mapped g o
+  bind-mapped f g k (refused n) e = refl
+  bind-mapped f g k (gives a) e = e a refl

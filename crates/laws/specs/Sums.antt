@@ -1,12 +1,12 @@
 -- Sums over the numbers below a bound, and tests of any of them. Assumes nothing.
 use Prim.Native.Nat.{ℕ, zero, suc, _+_, _*_, _≤_, _<_}
-use mathlib.Core.Path.{_≡_, refl, sym, ap, subst}
+use mathlib.Core.Path.{_≡_, refl, sym, ap}
 use mathlib.Core.Bool.{Bool, true, false, _||_}
 use mathlib.Core.Logic.{⊎-elim}
 use native.Mathlib.Nat.{add-zero, eq-or-lt-of-le, le-of-suc-le-suc}
 use native.Mathlib.Numerals.{add-one}
 use native.Mathlib.Omega.{arith}
-use Rattle.laws.specs.Tests.{neither}
+use Rattle.laws.specs.Tests.{neither, reached}
 
 -- g 0 + .. + g (n - 1)
 unfoldable pub sumTo : ℕ → (ℕ → ℕ) → ℕ
@@ -109,11 +109,7 @@ pub sum-turn : (f : ℕ → ℕ) (v n x : ℕ) → x ≡ f v → n ≡ sumTo v f
 sum-turn f v n x e q = rw (sum-more v f, e, q)
 
 pub sum-done : (f : ℕ → ℕ) (v m n : ℕ) → v ≤ m → m ≤ v → n ≡ sumTo v f → n ≡ sumTo m f
-sum-done f v m n a b q =
-    let e : v ≡ m = omega arith in
-    subst (λ (k : ℕ). n ≡ sumTo k f) e q
+sum-done f v m n = reached (λ k. n ≡ sumTo k f) v m
 
 pub any-done : (t : ℕ → Bool) (v m : ℕ) → v ≤ m → m ≤ v → any v t ≡ false → false ≡ any m t
-any-done t v m a b q =
-    let e : v ≡ m = omega arith in
-    subst (λ (k : ℕ). false ≡ any k t) e (sym q)
+any-done t v m a b q = sym (reached (λ k. any k t ≡ false) v m a b q)

@@ -1,12 +1,12 @@
--- Tests: what passing all of some, or none of them, says; and lists of numbers compared. Assumes nothing.
-use Prim.Native.Nat.{ℕ}
-use mathlib.Core.Path.{_≡_, refl, sym}
+-- Tests: what passing all of some, or none of them, says; numbers and lists of numbers compared. Assumes nothing.
+use Prim.Native.Nat.{ℕ, _≤_, _<_}
+use mathlib.Core.Path.{_≡_, refl, sym, subst}
 use mathlib.Core.Bool.{Bool, true, false, _&&_, _||_}
 use mathlib.Core.List.{List, [], _∷_}
-use mathlib.Core.Logic.{_↔_}
+use mathlib.Core.Logic.{_↔_, _⊎_, inl, inr}
 use native.Mathlib.Omega.{arith}
-use borrow.Author.Tests.{eq-eqb, eqb-true}
-use lib.Dec.{eqb}
+use borrow.Author.Tests.{eq-eqb, eqb-true, ltb-true, ltb-false}
+use lib.Dec.{eqb, ltb}
 
 pub never : {A : Type 0} → false ≡ true → A
 never e = absurd (let z : _≡_ {A = ℕ} 0 1 = cc in omega arith)
@@ -18,6 +18,21 @@ both false b e = never e
 pub neither : (a b : Bool) → (a || b) ≡ false → (a ≡ false) × (b ≡ false)
 neither true b e = never (sym e)
 neither false b e = (refl, e)
+
+-- ---- numbers
+-- below a bound, or not
+pub lt-or-ge : (i n : ℕ) → (i < n) ⊎ (n ≤ i)
+lt-or-ge i n = go (ltb i n) refl
+  where
+    go : (b : Bool) → ltb i n ≡ b → (i < n) ⊎ (n ≤ i)
+    go true e = inl (ltb-true i n e)
+    go false e = inr (ltb-false i n e)
+
+-- the end of a loop that counts up to n
+pub reached : (P : ℕ → Type 0) (i n : ℕ) → i ≤ n → n ≤ i → P i → P n
+reached P i n a b =
+    let e : i ≡ n = omega arith in
+    subst P e
 
 -- ---- whether two lists are one
 unfoldable pub same : List ℕ → List ℕ → Bool

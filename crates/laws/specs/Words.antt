@@ -2,11 +2,13 @@
 use Prim.Native.Nat.{ℕ, zero, suc, _+_, _-_, _*_, _/_, _%_, _^_, min, max, _≤_, _<_}
 use mathlib.Core.Path.{_≡_, refl, sym, ap, _∙_, subst}
 use mathlib.Core.Logic.{⊎-elim}
-use native.Mathlib.Nat.{zero-div, pow-succ', eq-or-lt-of-le, le-of-suc-le-suc, le-dest, mod-eq-of-lt, mul-le-mul-right}
+use native.Mathlib.Nat.{zero-div, pow-succ', eq-or-lt-of-le, le-of-suc-le-suc, le-dest, mod-eq-of-lt}
 use native.Mathlib.Numerals.{add-one}
 use native.Mathlib.Omega.{arith}
 use lib.Bits.{bitAnd, bitOr, and-mask, and-shr, and-step, or-shr, or-step, or-shifted-r}
 use lib.Pow.{shl-exact, shr-shr, high, low, field, mod-mod-pow, mod-pow-add}
+use Rattle.laws.specs.Tests.{reached}
+use Rattle.laws.specs.Digits.{digit-lt}
 
 -- bit j of x
 unfoldable pub bitAt : ℕ → ℕ → ℕ
@@ -45,10 +47,6 @@ unfolding bitAt
 bit-top b k lo h l = rw (high b k l) (mod-eq-of-lt h)
 
 -- ---- all bits
-pub pack-none : (f : ℕ → ℕ) → pack 0 f ≡ 0
-unfolding pack
-pack-none f = refl
-
 -- the number depends on its k bits alone
 pub pack-eq : (k : ℕ) (f g : ℕ → ℕ) → ((j : ℕ) → j < k → f j ≡ g j) → pack k f ≡ pack k g
 unfolding pack
@@ -59,7 +57,11 @@ pub pack-lt : (k : ℕ) (f : ℕ → ℕ) → ((j : ℕ) → j < k → f j < 2) 
 unfolding pack
 pack-lt zero f ok = omega arith
 pack-lt (suc k) f ok =
-    omega (arith, pack-lt k f (λ j l. ok j (omega arith)), pow-succ' 2 k, mul-le-mul-right {m = suc (f k)} {n = 2} (2 ^ k) (ok k (omega arith)))
+    omega (
+      arith,
+      pow-succ' 2 k,
+      digit-lt (f k) (2 ^ k) (pack k f) (omega (arith, ok k (omega arith))) (pack-lt k f (λ j l. ok j (omega arith))),
+    )
 
 -- the law of the lane: bit j of what is packed is the j-th that was packed
 pub bitAt-pack : (k : ℕ) (f : ℕ → ℕ) (j : ℕ) → ((j : ℕ) → j < k → f j < 2) → j < k → bitAt (pack k f) j ≡ f j
@@ -96,7 +98,8 @@ pub record Packed (f : ℕ → ℕ) (k word : ℕ) : Type 0 where
 
 module _ (f : ℕ → ℕ) where
   pub packed-none : Packed f 0 0
-  packed-none = record { is = sym (pack-none f); small = omega arith }
+  unfolding pack
+  packed-none = record { is = refl; small = omega arith }
 
   -- one turn, `word |= b << k` at a width of w bits
   pub packed-more : (w k b word : ℕ) → k < w → b ≡ f k → b < 2 → Packed f k word → Packed f (k + 1) (bitOr word ((b * 2 ^ k) % 2 ^ w))
@@ -106,13 +109,11 @@ module _ (f : ℕ → ℕ) where
       rw (shl-exact {a = b} 1 k w l (omega arith)) (or-shifted-r b k word (p .small)) in
       record {
         is = rw (turn, add-one k, e, p .is);
-        small = rw (turn, add-one k, pow-succ' 2 k) (omega (arith, p .small, mul-le-mul-right {m = suc b} {n = 2} (2 ^ k) l));
+        small = rw (turn, add-one k, pow-succ' 2 k) (digit-lt b (2 ^ k) word (omega arith) (p .small));
       }
 
   pub packed-done : (k n word : ℕ) → k ≤ n → n ≤ k → Packed f k word → word ≡ pack n f
-  packed-done k n word a b p =
-      let e : k ≡ n = omega arith in
-      subst (λ (m : ℕ). word ≡ pack m f) e (p .is)
+  packed-done k n word a b p = reached (λ m. word ≡ pack m f) k n a b (p .is)
 
 -- ---- AND, OR and NOT, lane by lane
 pub bitAt-and : (x y j : ℕ) → bitAt (bitAnd x y) j ≡ min (bitAt x j) (bitAt y j)

@@ -4,18 +4,20 @@ use mathlib.Core.Path.{_≡_, refl}
 use mathlib.Core.Bool.{Bool, true, false, not, cond}
 use mathlib.Core.List.{List}
 use native.Mathlib.Omega.{arith}
-use borrow.Author.Tests.{le-ltb, ne-eqb, ltb-false}
-use lib.Dec.{eqb, ltb}
+use borrow.Author.Tests.{le-ltb, ne-eqb}
+use lib.Dec.{eqb}
 use lib.ListN.{length, getD, take}
 use lib.Seq.{getD-take, length-take-le}
-use Rattle.laws.specs.Outcome.{Outcome, refused, gives, refuse, _>>_, passed, bound, mapped, mapped-gives, gives-inj}
-use Rattle.files.specs.Fields.{fieldOf, field-small}
-use Rattle.files.specs.Matrix.{Sizes, outside, most-rows, most-columns}
+use Rattle.laws.specs.Outcome.{Outcome, refused, gives, refuse, _>>_, mapped, mapped-gives}
+use Rattle.fields.specs.Fields.{fieldOf, field-small}
+use Rattle.files.specs.Matrix.{Sizes, most-rows}
+use Rattle.fields.specs.Limits.{outside, most-columns}
 use Rattle.files.specs.Files.{fileLength, headerOf, matrixOf}
 use Rattle.programs.specs.Instructions.{lengthOf}
 use Rattle.programs.specs.declared.description.Instruction.{Instruction}
 use Rattle.programs.specs.declared.description.Instruction.the-variants.{Ones, Zero, Input, Not, And, Or, Output}
-use Rattle.compiler.specs.Translation.{compiled, compileOf}
+use Rattle.compiler.specs.Translation.{compileOf}
+use Rattle.compiler.specs.Compiled.{compile-lays}
 
 pub length-few : (i : Instruction) → lengthOf i ≤ 10
 length-few (Ones to) = omega arith
@@ -28,22 +30,19 @@ length-few (Output o a) = omega arith
 
 -- what compile answers lies within its buffer
 pub program-fits : (file : List ℕ) (room n : ℕ) → gives n ≡ mapped length (compileOf file room) → n ≤ room
-unfolding compileOf
 program-fits file room n e =
     let (code, c, long) = mapped-gives length (compileOf file room) n e in
-    let (M, m, t) = bound (matrixOf file) (λ M. refuse 13 (ltb room (length (compiled M))) >> gives (compiled M)) code c in
-    let p = passed 13 (ltb room (length (compiled M))) (gives (compiled M)) code t in
-    let same : compiled M ≡ code = gives-inj (p .1) in
-    let h : length (compiled M) ≤ room = ltb-false room (length (compiled M)) (p .0) in
-    rw (← long, ← same) h
+    let (M, m, same, fits) = compile-lays file code room c in
+    rw (← long) fits
 
--- ---- a file longer than any length field is refused, and its kind, rows and columns say by which number: 2, 3, or 4 for the length field or for bytes
--- left over
+-- ---- a file longer than any length field is refused, and its kind, rows and columns say by which number: 2, 3, or 4 for the length field
+-- or for bytes left over
 unfoldable longNumber : ℕ → ℕ → ℕ → ℕ
 longNumber kind m n = cond (not (eqb kind 32)) 2 (cond (outside most-rows m) 3 (cond (outside most-columns n) 3 4))
 
 long-checks : (a b c d : Bool) →
-    _≡_ {A = Outcome Sizes} (refuse 2 a >> (refuse 3 b >> (refuse 3 c >> (refuse 4 d >> refused 4)))) (refused (cond a 2 (cond b 3 (cond c 3 4))))
+    _≡_ {A = Outcome Sizes} (refuse 2 a >> (refuse 3 b >> (refuse 3 c >> (refuse 4 d >> refused 4))))
+    (refused (cond a 2 (cond b 3 (cond c 3 4))))
 long-checks true b c d = refl
 long-checks false true c d = refl
 long-checks false false true d = refl
@@ -54,7 +53,11 @@ long-header : (file : List ℕ) → 8 ≤ length file → fieldOf file 0 < lengt
     headerOf file ≡ refused (longNumber (fieldOf file 2) (fieldOf file 4) (fieldOf file 6))
 unfolding headerOf longNumber
 long-header file a b =
-    rw (le-ltb (length file) 8 a, le-ltb (length file) (fieldOf file 0) (omega arith), ne-eqb (length file) (fieldOf file 0) (λ e. omega arith))
+    rw (
+      le-ltb (length file) 8 a,
+      le-ltb (length file) (fieldOf file 0) (omega arith),
+      ne-eqb (length file) (fieldOf file 0) (λ e. omega arith),
+    )
     (long-checks (not (eqb (fieldOf file 2) 32)) (outside most-rows (fieldOf file 4)) (outside most-columns (fieldOf file 6))
     (not (eqb (fieldOf file 0) (fileLength (fieldOf file 4) (fieldOf file 6)))))
 

@@ -1,5 +1,5 @@
 // What a listing prints, line by line (01, "Checked by hand"): single spaces, a newline after every line.
-use files::Refusal;
+use fields::Refusal;
 use libc::STDOUT_FILENO;
 use programs::Instruction;
 use programs::Program;
@@ -57,6 +57,6 @@ pub(crate) fn print_header(p: Program) {
 // The line of a refusal.
 pub(crate) fn print_refusal(why: Refusal) {
     io::write_all(STDOUT_FILENO, b"refused");
-    print_next(files::number(why) as u64);
+    print_next(fields::number(why) as u64);
     print_newline();
 }

@@ -1,7 +1,7 @@
 // Reads a matrix file on standard input and lists the program that it compiles to (01, "Checked by hand").
 mod lines;
 
-use files::Written;
+use fields::Written;
 use libc::STDIN_FILENO;
 use lines::print_header;
 use lines::print_line;
@@ -40,9 +40,10 @@ fn list(program: &[u8]) {
     }
 }
 
-// Takes at most 65,537 bytes of standard input. That is more than any length field can say, 65,535, so a file cut there is refused as the whole
-// file is (`front-decides` of specs/Listing.antt): 1 is passed by both, 2 and 3 look at the first 8 bytes alone, and where these pass, both are 4,
-// since bytes are left over beyond the length field. A program above 65,536 bytes is refusal 13, by the length of its buffer.
+// Takes at most 65,537 bytes of standard input. That is more than any length field can say, 65,535, so a file cut there is refused as
+// the whole file is (`front-decides` of specs/Listing.antt): 1 is passed by both, 2 and 3 look at the first 8 bytes alone, and where these
+// pass, both are 4, since bytes are left over beyond the length field. A program above 65,536 bytes is refusal 13, by the length of its
+// buffer.
 fn main() {
     let mut file = [0u8; 65537];
     let n = io::read_full(STDIN_FILENO, &mut file);

@@ -1,70 +1,93 @@
--- The ways of a start and a resume, and what an accepted program says of its bytes. Assumes nothing.
-use Prim.Native.Nat.{ℕ, zero, suc, _+_, _-_, _≤_, _<_}
-use mathlib.Core.Path.{_≡_, refl, sym, ap, _∙_}
+-- The ways of a start and a resume, in the words of their contracts, and what an accepted program says of its bytes. Assumes nothing.
+use Prim.Native.Nat.{ℕ, zero, suc, _≤_, _<_}
+use mathlib.Core.Path.{_≡_, refl, sym, ap, _∙_, subst}
 use mathlib.Core.Bool.{Bool, true, false, not, _||_}
 use mathlib.Core.List.{List, [], _∷_, _++_}
 use native.Mathlib.Omega.{arith}
-use borrow.Author.Tests.{le-ltb, lt-ltb, ltb-false, not-false}
+use borrow.Author.Tests.{le-ltb, lt-ltb, ltb-false}
 use lib.Dec.{ltb}
-use lib.ListN.{length, take, drop, replicate, length-take, length-replicate}
+use lib.ListN.{length, take, drop, length-take}
+use lib.Seq.{length-take-le}
 use Rattle.laws.specs.Tests.{neither}
 use Rattle.laws.specs.Sums.{any}
 use Rattle.laws.specs.Lay.{lay, lay-nothing}
-use Rattle.laws.specs.Outcome.{Outcome, refused, gives, refuse, _>>_, _>>=_, passed, bound, gives-inj, mapped, laid, mapped-gives, mapped-refused}
-use Rattle.programs.specs.Instructions.{uses, lengthOf, decodeOf}
+use Rattle.laws.specs.Outcome.{Outcome, refused, gives, refuse, _>>_, passed, bound, gives-inj, mapped, laid, mapped-gives}
+use Rattle.laws.specs.Outcome.{mapped-refused}
+use Rattle.programs.specs.Instructions.{uses, lengthOf}
 use Rattle.programs.specs.Header.{header-length}
 use Rattle.programs.specs.declared.description.Program.{Program}
 use Rattle.programs.specs.declared.description.Instruction.{Instruction}
-use Rattle.machine.specs.Meaning.{words, exec-long}
-use Rattle.machine.specs.Checks.{Code, every, also, inRange, instructionOf, codeOf, nothing, checkOf}
-use Rattle.machine.specs.Runs.{Ended, steps, runOf, roomFor, startOn, resumeOn, startOf, resumeOf}
-use Rattle.machine.specs.Standing.{readOf, Formed}
-use Rattle.machine.specs.Turns.{state, Ends}
-use Rattle.machine.specs.Checking.{range-means, range-wider, instruction-means, check-says}
+use Rattle.machine.specs.Meaning.{wordGates}
+use Rattle.checker.specs.Checks.{Code, also, instructionOf, codeOf, nothing, checkOf}
+use Rattle.machine.specs.Runs.{Ended, runOf, roomFor}
+use Rattle.machine.specs.Calls.{Room, Sized, Entry, start, resume, onEntry, Call, callOn, begins, from, admits, call-is, call-gives}
+use Rattle.machine.specs.Calls.{cleared, lent, admitted, sized-from, sized-run}
+use Rattle.checker.specs.Standing.{readOf, Formed}
+use Rattle.machine.specs.Steps.{state}
+use Rattle.machine.specs.Turns.{Ends, prepared}
+use Rattle.checker.specs.Operands.{range-means, range-wider, instruction-means}
+use Rattle.checker.specs.Checking.{check-says}
 use Rattle.machine.specs.declared.runs.Run.{Run}
 
--- ---- an accepted program stands in its bytes
-pub record Reaches (p : Program) (nr ni nq : ℕ) : Type 0 where
-  pub registers : p .registers ≤ nr
-  pub inputs : p .inputs ≤ ni
-  pub outputs : p .outputs ≤ nq
-
-module _ (p : Program) (nr ni nq : ℕ) (r : Reaches p nr ni nq) where
-  code-stands : (n : ℕ) (written set : ℕ → Bool) (bytes : List ℕ) (is : List Instruction) → codeOf n p written set bytes ≡ gives is →
-      Formed n nr ni nq bytes × (readOf n bytes ≡ is) × (length is ≡ n)
-  unfolding codeOf Formed readOf
-  code-stands zero written set bytes is e =
-      let c1 = passed 4 (ltb 0 (length bytes)) (refuse 10 (any (p .outputs) (λ o. not (set o))) >> gives []) is e in
-      let c2 = passed 10 (any (p .outputs) (λ o. not (set o))) (gives []) is (c1 .1) in
-      (tt, gives-inj (c2 .1), ap length (sym (gives-inj (c2 .1))))
-  code-stands (suc n) written set bytes is e =
-      let c1 = bound (instructionOf p written bytes) _ is e in
-      let i = c1 .0 in
-      let c2 = bound (codeOf n p (also written (uses i .writes)) (also set (uses i .sets)) (drop (lengthOf i) bytes)) _ is (c1 .2) in
-      let m = instruction-means p written bytes i (c1 .1) in
-      let h = code-stands n (also written (uses i .writes)) (also set (uses i .sets)) (drop (lengthOf i) bytes) (c2 .0) (c2 .1) in
-      let whole : i ∷ c2 .0 ≡ is = gives-inj (c2 .2) in (
-        rw (m .0) (range-wider _ _ _ _ _ _ i (r .registers) (r .inputs) (r .outputs) (range-means p i (m .1)), h .0),
-        rw (m .0) (ap (λ (js : List Instruction). i ∷ js) (h .1) ∙ whole),
-        ap length (sym whole) ∙ ap suc (h .2),
-      )
+-- what the contracts say of a call: its answer, and what it lays down
+abbrev pub Answers : Call ℕ → ℕ → Outcome Run → List ℕ → List ℕ → Type 0
+Answers k budget r rs os =
+    let o = callOn k budget in
+    (r ≡ mapped (λ x. x .answer) o) ×
+    ((rs ≡ lay (laid (λ x. x .state .registers) o) (k .registers)) × (os ≡ lay (laid (λ x. x .state .outputs) o) (k .outputs)))
 
 -- what a check that has passed says
 pub record Accepted (file : List ℕ) (p : Program) : Type 0 where
   pub code : Code
   pub checks : checkOf file ≡ gives code
   pub header : code .program ≡ p
-  pub stands : codeOf (p .count) p nothing nothing (drop header-length file) ≡ gives (code .instructions)
+  pub formed : (inputs registers outputs : List ℕ) → Room p inputs registers outputs →
+      Formed (p .count) (length registers) (length inputs) (length outputs) (drop header-length file)
   pub reads : readOf (p .count) (drop header-length file) ≡ code .instructions
   pub counted : length (code .instructions) ≡ p .count
 
-pub accepted : (file : List ℕ) (p : Program) → gives p ≡ mapped (λ c. c .program) (checkOf file) → Accepted file p
-accepted file p e =
+-- whether a buffer is too short
+abbrev pub lacking : Program → List ℕ → List ℕ → List ℕ → Bool
+lacking p inputs registers outputs =
+    ltb (length inputs) (p .inputs) || ltb (length registers) (p .registers) || ltb (length outputs) (p .outputs)
+
+-- what is known of a call before its run
+pub record Fits (k : Call ℕ) (p : Program) : Type 0 where
+  pub checked : gives p ≡ mapped (λ c. c .program) (checkOf (k .file))
+  pub here : begins k ≤ p .count
+  pub room : Room p (k .inputs) (k .registers) (k .outputs)
+
+-- ---- an accepted program stands in its bytes
+code-stands : (p : Program) (n : ℕ) (written set : ℕ → Bool) (bytes : List ℕ) (is : List Instruction) →
+    codeOf n p written set bytes ≡ gives is →
+    ((inputs registers outputs : List ℕ) → Room p inputs registers outputs →
+    Formed n (length registers) (length inputs) (length outputs) bytes) ×
+    ((readOf n bytes ≡ is) × (length is ≡ n))
+unfolding codeOf Formed readOf
+code-stands p zero written set bytes is e =
+    let c1 = passed 4 (ltb 0 (length bytes)) (refuse 10 (any (p .outputs) (λ o. not (set o))) >> gives []) is e in
+    let c2 = passed 10 (any (p .outputs) (λ o. not (set o))) (gives []) is (c1 .1) in
+    (λ inputs registers outputs r. tt, (gives-inj (c2 .1), ap length (sym (gives-inj (c2 .1)))))
+code-stands p (suc n) written set bytes is e =
+    let c1 = bound (instructionOf p written bytes) _ is e in
+    let i = c1 .0 in
+    let c2 = bound (codeOf n p (also written (uses i .writes)) (also set (uses i .sets)) (drop (lengthOf i) bytes)) _ is (c1 .2) in
+    let m = instruction-means p written bytes i (c1 .1) in
+    let h = code-stands p n (also written (uses i .writes)) (also set (uses i .sets)) (drop (lengthOf i) bytes) (c2 .0) (c2 .1) in
+    let all : i ∷ c2 .0 ≡ is = gives-inj (c2 .2) in (
+      λ inputs registers outputs r. rw (m .0) (
+        range-wider _ _ _ _ _ _ i (r .for-registers) (r .for-inputs) (r .for-outputs) (range-means p i (m .1)),
+        h .0 inputs registers outputs r,
+      ),
+      (rw (m .0) (ap (λ (js : List Instruction). i ∷ js) (h .1 .0) ∙ all), ap length (sym all) ∙ ap suc (h .1 .1)),
+    )
+
+pub accepted-file : (file : List ℕ) (p : Program) → gives p ≡ mapped (λ c. c .program) (checkOf file) → Accepted file p
+accepted-file file p e =
     let m = mapped-gives (λ (c : Code). c .program) (checkOf file) p e in
     let s = rw (m .2) at (check-says file (m .0) (m .1) .1) in
-    let own : Reaches p (p .registers) (p .inputs) (p .outputs) = record { registers = omega arith; inputs = omega arith; outputs = omega arith } in
-    let h = code-stands p _ _ _ own (p .count) nothing nothing (drop header-length file) (m .0 .instructions) s in
-    record { code = m .0; checks = m .1; header = m .2; stands = s; reads = h .1; counted = h .2 }
+    let h = code-stands p (p .count) nothing nothing (drop header-length file) (m .0 .instructions) s in
+    record { code = m .0; checks = m .1; header = m .2; formed = h .0; reads = h .1 .0; counted = h .1 .1 }
 
 -- ---- room
 either : (a b c : Bool) → (refuse 13 a >> (refuse 13 b >> (refuse 13 c >> gives tt))) ≡ refuse 13 (a || b || c)
@@ -73,152 +96,119 @@ either false true c = refl
 either false false true = refl
 either false false false = refl
 
-room-is : (p : Program) (inputs registers outputs : List ℕ) → roomFor words p inputs registers outputs ≡
-    refuse 13 (ltb (length inputs) (p .inputs) || ltb (length registers) (p .registers) || ltb (length outputs) (p .outputs))
-room-is p inputs registers outputs = either (ltb (length inputs) (p .inputs)) (ltb (length registers) (p .registers)) (ltb (length outputs) (p .outputs))
+room-is : (k : Call ℕ) (p : Program) → roomFor (k .gates) p (k .inputs) (k .registers) (k .outputs) ≡
+    refuse 13 (lacking p (k .inputs) (k .registers) (k .outputs))
+room-is k p =
+    either (ltb (length (k .inputs)) (p .inputs)) (ltb (length (k .registers)) (p .registers)) (ltb (length (k .outputs)) (p .outputs))
 
-pub room-means : (p : Program) (ni nr nq : ℕ) (b : Bool) → b ≡ (ltb ni (p .inputs) || ltb nr (p .registers) || ltb nq (p .outputs)) → b ≡ false → Reaches p nr ni nq
-room-means p ni nr nq b e q =
-    let s = neither (ltb ni (p .inputs) || ltb nr (p .registers)) (ltb nq (p .outputs)) (sym e ∙ q) in
-    let t = neither (ltb ni (p .inputs)) (ltb nr (p .registers)) (s .0) in
-    record { registers = ltb-false nr (p .registers) (t .1); inputs = ltb-false ni (p .inputs) (t .0); outputs = ltb-false nq (p .outputs) (s .1) }
+pub room-means : (p : Program) (inputs registers outputs : List ℕ) (b : Bool) → b ≡ lacking p inputs registers outputs → b ≡ false →
+    Room p inputs registers outputs
+room-means p inputs registers outputs b e q =
+    let s =
+    neither (ltb (length inputs) (p .inputs) || ltb (length registers) (p .registers)) (ltb (length outputs) (p .outputs)) (sym e ∙ q) in
+    let t = neither (ltb (length inputs) (p .inputs)) (ltb (length registers) (p .registers)) (s .0) in
+    record {
+      for-inputs = ltb-false (length inputs) (p .inputs) (t .0);
+      for-registers = ltb-false (length registers) (p .registers) (t .1);
+      for-outputs = ltb-false (length outputs) (p .outputs) (s .1);
+    }
 
 -- the parts that are lent
 pub part-long : (n : ℕ) (ws : List ℕ) → n ≤ length ws → n ≡ length (take n ws)
 part-long n ws h = sym (length-take n ws ∙ omega arith)
 
--- ---- an answer with what it lays down
-module _ (o : Outcome (Ended ℕ)) (rs os : List ℕ) where
-  abbrev pub Answers : Outcome Run → List ℕ → List ℕ → Type 0
-  Answers r rs′ os′ =
-      (r ≡ mapped (λ x. x .answer) o) × ((rs′ ≡ lay (laid (λ x. x .state .registers) o) rs) × (os′ ≡ lay (laid (λ x. x .state .outputs) o) os))
+-- ---- refusals
+module _ (k : Call ℕ) (budget : ℕ) where
+  refuses : (n : ℕ) → admits k ≡ refused n → Answers k budget (refused n) (k .registers) (k .outputs)
+  refuses n e =
+      let q : callOn k budget ≡ refused n = call-is k budget ∙ rw e in
+      (rw q, (rw q (lay-nothing (k .registers)), rw q (lay-nothing (k .outputs))))
 
-  refuses : (k : ℕ) → o ≡ refused k → Answers (refused k) rs os
-  refuses k e = (rw e, (rw e (lay-nothing rs), rw e (lay-nothing os)))
+  pub call-refused : (n : ℕ) → refused n ≡ mapped (λ c. c .program) (checkOf (k .file)) →
+      Answers k budget (refused n) (k .registers) (k .outputs)
+  unfolding admitted
+  call-refused n e = refuses n (rw (mapped-refused (λ (c : Code). c .program) (checkOf (k .file)) n e))
 
-  ended : (x : Ended ℕ) → o ≡ gives x → (n m : ℕ) → length (x .state .registers) ≡ n → length (x .state .outputs) ≡ m →
-      Answers (gives (x .answer)) (x .state .registers ++ drop n rs) (x .state .outputs ++ drop m os)
-  unfolding lay
-  ended x e n m p q = (rw e, (rw (e, p), rw (e, q)))
+  module _ (p : Program) (e : gives p ≡ mapped (λ c. c .program) (checkOf (k .file))) where
+    pub call-beyond : p .count < begins k → Answers k budget (refused 12) (k .registers) (k .outputs)
+    unfolding admitted
+    call-beyond l =
+        let a = accepted-file (k .file) p e in
+        refuses 12 (rw (a .checks, lt-ltb (length (a .code .instructions)) (begins k) (omega (arith, a .counted))))
 
+    pub call-short : begins k ≤ p .count → (b : Bool) → b ≡ lacking p (k .inputs) (k .registers) (k .outputs) → b ≡ true →
+        Answers k budget (refused 13) (k .registers) (k .outputs)
+    unfolding admitted
+    call-short l b is-b t =
+        let a = accepted-file (k .file) p e in
+        refuses 13
+        (rw (a .checks, le-ltb (length (a .code .instructions)) (begins k) (omega (arith, a .counted)), a .header, room-is k p, ← is-b, t))
+
+-- ---- a run
 -- what a run leaves, as the definition says it
-module _ (file : List ℕ) (p : Program) (a : Accepted file p) (inputs rs os : List ℕ) (position budget : ℕ) where
-  abbrev run : Ended ℕ
-  run = runOf words (a .code .instructions) inputs position budget (state rs os)
+run-is : (file : List ℕ) (p : Program) (a : Accepted file p) (inputs rs os : List ℕ) (position budget : ℕ) (r : Run) (rs′ os′ : List ℕ) →
+    Ends file (p .count) inputs rs os position budget r rs′ os′ →
+    runOf wordGates (a .code .instructions) inputs position budget (state rs os) ≡ record { answer = r; state = state rs′ os′ }
+unfolding runOf
+run-is file p a inputs rs os position budget r rs′ os′ d = rw (d .answer, d .left, a .reads, ← a .counted)
 
-  run-ends : (r : Run) (rs′ os′ : List ℕ) → Ends file (p .count) inputs rs os position budget r rs′ os′ →
-      (run .answer ≡ r) × (run .state .registers ≡ rs′) × (run .state .outputs ≡ os′)
-  unfolding runOf
-  run-ends r rs′ os′ d =
-      (rw (a .counted) (sym (d .answer)), rw (a .counted, ← a .reads) (sym (d .registers)), rw (a .counted, ← a .reads) (sym (d .outputs)))
+-- whether a call clears what is lent
+abbrev pub clears : Call ℕ → Bool
+clears k = onEntry (k .entry) true (λ position. false)
 
-  run-long : (length (run .state .registers) ≡ length rs) × (length (run .state .outputs) ≡ length os)
-  unfolding runOf
-  run-long =
-      exec-long words inputs (take (steps budget position (length (a .code .instructions))) (drop position (a .code .instructions))) (state rs os)
+module _ {k : Call ℕ} {p : Program} (f : Fits k p) where
+  pub parts-formed : Formed (p .count) (length (take (p .registers) (k .registers))) (length (k .inputs))
+      (length (take (p .outputs) (k .outputs))) (drop header-length (k .file))
+  parts-formed =
+      let r = f .room in
+      accepted-file (k .file) p (f .checked) .formed (k .inputs) (take (p .registers) (k .registers)) (take (p .outputs) (k .outputs))
+      (record {
+        for-inputs = r .for-inputs;
+        for-registers = omega (arith, part-long (p .registers) (k .registers) (r .for-registers));
+        for-outputs = omega (arith, part-long (p .outputs) (k .outputs) (r .for-outputs));
+      })
 
-  run-answers : (o : Outcome (Ended ℕ)) (registers outputs : List ℕ) → o ≡ gives run → (r : Run) (rs′ os′ : List ℕ) →
-      Ends file (p .count) inputs rs os position budget r rs′ os′ → (n m : ℕ) → length rs ≡ n → length os ≡ m →
-      Answers o registers outputs (gives r) (rs′ ++ drop n registers) (os′ ++ drop m outputs)
-  run-answers o registers outputs e r rs′ os′ d n m ln lm =
-      let q = run-ends r rs′ os′ d in
-      rw (q .0, q .1, q .2) at (ended o registers outputs run e n m (run-long .0 ∙ ln) (run-long .1 ∙ lm))
+  -- the state that the code runs from is the call's
+  prepared-from : k .gates ≡ wordGates →
+      state (prepared (clears k) (take (p .registers) (k .registers))) (prepared (clears k) (take (p .outputs) (k .outputs))) ≡ from k p
+  prepared-from g = by (k .entry)
+    where
+      by : (e : Entry) →
+          state (prepared (onEntry e true (λ position. false)) (take (p .registers) (k .registers)))
+          (prepared (onEntry e true (λ position. false)) (take (p .outputs) (k .outputs))) ≡
+          onEntry e (cleared (k .gates) p) (λ position. lent (k .gates) p (k .registers) (k .outputs))
+      by start =
+          rw (
+            g,
+            length-take-le (p .registers) (k .registers) (f .room .for-registers),
+            length-take-le (p .outputs) (k .outputs) (f .room .for-outputs),
+          )
+      by (resume position) = refl
 
--- ---- the ways of the two
-module _ (file inputs registers outputs : List ℕ) where
-  pub start-refused : (budget k : ℕ) → refused k ≡ mapped (λ c. c .program) (checkOf file) →
-      Answers (startOf file inputs registers outputs budget) registers outputs (refused k) registers outputs
-  unfolding startOn
-  start-refused budget k e =
-      refuses (startOf file inputs registers outputs budget) registers outputs k (rw (mapped-refused (λ (c : Code). c .program) (checkOf file) k e))
+  pub call-ends : k .gates ≡ wordGates → {budget : ℕ} {r : Run} {rs′ os′ : List ℕ} →
+      Ends (k .file) (p .count) (k .inputs) (prepared (clears k) (take (p .registers) (k .registers)))
+      (prepared (clears k) (take (p .outputs) (k .outputs))) (begins k) budget r rs′ os′ →
+      Answers k budget (gives r) (rs′ ++ drop (p .registers) (k .registers)) (os′ ++ drop (p .outputs) (k .outputs))
+  unfolding lay
+  call-ends g {budget} {r} {rs′} {os′} d =
+      (rw given, (rw (given, sized .of-registers), rw (given, sized .of-outputs)))
+    where
+      a : Accepted (k .file) p
+      a = accepted-file (k .file) p (f .checked)
 
-  pub resume-refused : (position budget k : ℕ) → refused k ≡ mapped (λ c. c .program) (checkOf file) →
-      Answers (resumeOf file inputs registers outputs position budget) registers outputs (refused k) registers outputs
-  unfolding resumeOn
-  resume-refused position budget k e =
-      refuses (resumeOf file inputs registers outputs position budget) registers outputs k
-      (rw (mapped-refused (λ (c : Code). c .program) (checkOf file) k e))
+      end : Ended ℕ
+      end = record { answer = r; state = state rs′ os′ }
 
-  module _ (p : Program) where
-    abbrev lacking : Bool
-    lacking = ltb (length inputs) (p .inputs) || ltb (length registers) (p .registers) || ltb (length outputs) (p .outputs)
+      ran : runOf (k .gates) (a .code .instructions) (k .inputs) (begins k) budget (from k p) ≡ end
+      ran = rw (← prepared-from g, g) (run-is (k .file) p a (k .inputs) _ _ (begins k) budget r rs′ os′ d)
 
-    module _ (c : Code) (checks : checkOf file ≡ gives c) (header : c .program ≡ p) (budget : ℕ) where
-      start-lacks : lacking ≡ true → startOf file inputs registers outputs budget ≡ refused 13
-      unfolding startOn
-      start-lacks t = rw (checks, header, room-is p inputs registers outputs, t)
+      given : callOn k budget ≡ gives end
+      given =
+          call-gives k budget (a .code)
+          (record { accepted = a .checks; before-end = omega (arith, a .counted, f .here); room = rw (a .header) (f .room) }) ∙
+          rw (a .header, ran)
 
-      start-gives : lacking ≡ false → startOf file inputs registers outputs budget ≡
-          gives (runOf words (c .instructions) inputs 0 budget (state (replicate (p .registers) 0) (replicate (p .outputs) 0)))
-      unfolding startOn
-      start-gives f = rw (checks, header, room-is p inputs registers outputs, f)
-
-      module _ (position : ℕ) where
-        resume-above : length (c .instructions) < position → resumeOf file inputs registers outputs position budget ≡ refused 12
-        unfolding resumeOn
-        resume-above l = rw (checks, lt-ltb (length (c .instructions)) position l)
-
-        module _ (l : position ≤ length (c .instructions)) where
-          resume-lacks : lacking ≡ true → resumeOf file inputs registers outputs position budget ≡ refused 13
-          unfolding resumeOn
-          resume-lacks t = rw (checks, header, le-ltb (length (c .instructions)) position l, room-is p inputs registers outputs, t)
-
-          resume-gives : lacking ≡ false → resumeOf file inputs registers outputs position budget ≡
-              gives (runOf words (c .instructions) inputs position budget (state (take (p .registers) registers) (take (p .outputs) outputs)))
-          unfolding resumeOn
-          resume-gives f = rw (checks, header, le-ltb (length (c .instructions)) position l, room-is p inputs registers outputs, f)
-
-    module _ (e : gives p ≡ mapped (λ c. c .program) (checkOf file)) (budget : ℕ) where
-      a : Accepted file p
-      a = accepted file p e
-
-      pub resume-beyond : (position : ℕ) → p .count < position →
-          Answers (resumeOf file inputs registers outputs position budget) registers outputs (refused 12) registers outputs
-      resume-beyond position l =
-          refuses (resumeOf file inputs registers outputs position budget) registers outputs 12
-          (resume-above (a .code) (a .checks) (a .header) budget position (omega (arith, a .counted)))
-
-      module _ (b : Bool) (is-b : b ≡ lacking) where
-        pub start-short : b ≡ true → Answers (startOf file inputs registers outputs budget) registers outputs (refused 13) registers outputs
-        start-short t =
-            refuses (startOf file inputs registers outputs budget) registers outputs 13 (start-lacks (a .code) (a .checks) (a .header) budget (sym is-b ∙ t))
-
-        pub resume-short : (position : ℕ) → position ≤ p .count → b ≡ true →
-            Answers (resumeOf file inputs registers outputs position budget) registers outputs (refused 13) registers outputs
-        resume-short position l t =
-            refuses (resumeOf file inputs registers outputs position budget) registers outputs 13
-            (resume-lacks (a .code) (a .checks) (a .header) budget position (omega (arith, a .counted)) (sym is-b ∙ t))
-
-        module _ (f : b ≡ false) where
-          pub reaches : Reaches p (length registers) (length inputs) (length outputs)
-          reaches = room-means p (length inputs) (length registers) (length outputs) b is-b f
-
-          registers-part : p .registers ≡ length (take (p .registers) registers)
-          registers-part = part-long (p .registers) registers (reaches .registers)
-
-          outputs-part : p .outputs ≡ length (take (p .outputs) outputs)
-          outputs-part = part-long (p .outputs) outputs (reaches .outputs)
-
-          pub parts-formed :
-              Formed (p .count) (length (take (p .registers) registers)) (length inputs) (length (take (p .outputs) outputs)) (drop header-length file)
-          parts-formed =
-              code-stands p (length (take (p .registers) registers)) (length inputs) (length (take (p .outputs) outputs))
-              (record { registers = omega (arith, registers-part); inputs = reaches .inputs; outputs = omega (arith, outputs-part) })
-              (p .count) nothing nothing (drop header-length file) (a .code .instructions) (a .stands) .0
-
-          pub start-done : (r : Run) (rs′ os′ : List ℕ) →
-              Ends file (p .count) inputs (replicate (length (take (p .registers) registers)) 0) (replicate (length (take (p .outputs) outputs)) 0) 0 budget r rs′ os′ →
-              Answers (startOf file inputs registers outputs budget) registers outputs (gives r) (rs′ ++ drop (p .registers) registers) (os′ ++ drop (p .outputs) outputs)
-          start-done r rs′ os′ d =
-              run-answers file p a inputs (replicate (p .registers) 0) (replicate (p .outputs) 0) 0 budget (startOf file inputs registers outputs budget) registers
-              outputs (start-gives (a .code) (a .checks) (a .header) budget (sym is-b ∙ f)) r rs′ os′ (rw (← registers-part, ← outputs-part) at d)
-              (p .registers) (p .outputs) (length-replicate (p .registers) 0) (length-replicate (p .outputs) 0)
-
-          pub resume-done : (position : ℕ) → position ≤ p .count → (r : Run) (rs′ os′ : List ℕ) →
-              Ends file (p .count) inputs (take (p .registers) registers) (take (p .outputs) outputs) position budget r rs′ os′ →
-              Answers (resumeOf file inputs registers outputs position budget) registers outputs (gives r) (rs′ ++ drop (p .registers) registers) (os′ ++ drop (p .outputs) outputs)
-          resume-done position l r rs′ os′ d =
-              run-answers file p a inputs (take (p .registers) registers) (take (p .outputs) outputs) position budget
-              (resumeOf file inputs registers outputs position budget) registers outputs
-              (resume-gives (a .code) (a .checks) (a .header) budget position (omega (arith, a .counted)) (sym is-b ∙ f)) r rs′ os′ d (p .registers) (p .outputs)
-              (sym registers-part) (sym outputs-part)
+      sized : Sized p (end .state)
+      sized =
+          subst (λ (x : Ended ℕ). Sized p (x .state)) ran
+          (sized-run (k .gates) p (a .code .instructions) (k .inputs) (begins k) budget (from k p) (sized-from k p (f .room)))

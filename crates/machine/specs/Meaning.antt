@@ -1,7 +1,7 @@
 -- 01, "Files": what instructions do to registers and outputs. Assumes nothing.
 use Prim.Native.Nat.{ℕ, _-_, _^_, min, max}
 use mathlib.Core.Path.{_≡_, refl, _∙_}
-use mathlib.Core.List.{List, [], _∷_}
+use mathlib.Core.List.{List, [], _∷_, _++_}
 use lib.Bits.{bitAnd, bitOr}
 use lib.ListN.{length, getD, set, length-set}
 use Rattle.programs.specs.declared.description.Instruction.{Instruction}
@@ -16,12 +16,12 @@ pub record Gates (A : Type 0) : Type 0 where
   pub either : A → A → A
 
 -- 01's registers are 64-bit words
-abbrev pub words : Gates ℕ
-words = record { ones = 2 ^ 64 - 1; zeros = 0; inverse = λ x. (2 ^ 64 - 1) - x; both = bitAnd; either = bitOr }
+abbrev pub wordGates : Gates ℕ
+wordGates = record { ones = 2 ^ 64 - 1; zeros = 0; inverse = λ x. (2 ^ 64 - 1) - x; both = bitAnd; either = bitOr }
 
 -- one lane of them is a single bit, 0 or 1
-abbrev pub bits : Gates ℕ
-bits = record { ones = 1; zeros = 0; inverse = λ x. 1 - x; both = min; either = max }
+abbrev pub bitGates : Gates ℕ
+bitGates = record { ones = 1; zeros = 0; inverse = λ x. 1 - x; both = min; either = max }
 
 pub record State (A : Type 0) : Type 0 where
   pub registers : List A
@@ -68,3 +68,9 @@ module _ {A : Type 0} (G : Gates A) (inputs : List A) where
       let l = exec-long is (step i s) in
       let m = step-long i s in
       (l .0 ∙ m .0, l .1 ∙ m .1)
+
+  -- ---- one list of instructions after another
+  pub exec-append : (is js : List Instruction) (s : State A) → exec (is ++ js) s ≡ exec js (exec is s)
+  unfolding exec
+  exec-append [] js s = refl
+  exec-append (i ∷ is) js s = exec-append is js (step i s)

@@ -4,11 +4,11 @@ use mathlib.Core.List.{List}
 use lib.Dec.{eqb, ltb}
 use lib.ListN.{length, take, drop, replicate}
 use Rattle.laws.specs.Outcome.{Outcome, refused, gives, refuse, _>>_, _>>=_}
-use Rattle.files.specs.Refusal.{numberOf}
+use Rattle.fields.specs.Refusal.{numberOf}
 use Rattle.programs.specs.declared.description.Program.{Program}
 use Rattle.programs.specs.declared.description.Instruction.{Instruction}
-use Rattle.machine.specs.Meaning.{Gates, words, State, exec}
-use Rattle.machine.specs.Checks.{checkOf}
+use Rattle.machine.specs.Meaning.{Gates, wordGates, State, exec}
+use Rattle.checker.specs.Checks.{checkOf}
 use Rattle.machine.specs.declared.runs.Run.{Run}
 use Rattle.machine.specs.declared.runs.Ran.{Ran}
 use Rattle.machine.specs.declared.runs.Ran.the-variants as Ran
@@ -27,8 +27,8 @@ abbrev pub carried : ℕ → ℕ → List Instruction → List Instruction
 carried budget position is = take (steps budget position (length is)) (drop position is)
 
 -- the answer: finished where no instruction is left
-abbrev pub answerOf : ℕ → ℕ → ℕ → Run
-answerOf budget position count =
+abbrev pub runAnswer : ℕ → ℕ → ℕ → Run
+runAnswer budget position count =
     record {
       finished = eqb (position + steps budget position count) count;
       position = position + steps budget position count;
@@ -41,7 +41,7 @@ module _ {A : Type 0} (G : Gates A) where
   unfoldable pub runOf : List Instruction → List A → ℕ → ℕ → State A → Ended A
   runOf is inputs position budget s =
       record {
-        answer = answerOf budget position (length is);
+        answer = runAnswer budget position (length is);
         state = exec G inputs (carried budget position is) s;
       }
 
@@ -71,10 +71,10 @@ module _ {A : Type 0} (G : Gates A) where
         (record { registers = take (c .program .registers) registers; outputs = take (c .program .outputs) outputs }))
 
 abbrev pub startOf : List ℕ → List ℕ → List ℕ → List ℕ → ℕ → Outcome (Ended ℕ)
-startOf = startOn words
+startOf = startOn wordGates
 
 abbrev pub resumeOf : List ℕ → List ℕ → List ℕ → List ℕ → ℕ → ℕ → Outcome (Ended ℕ)
-resumeOf = resumeOn words
+resumeOf = resumeOn wordGates
 
 -- ---- the answers' cases in 01's numbers and values
 abbrev pub ran : Ran → Outcome Run

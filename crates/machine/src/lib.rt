@@ -1,10 +1,8 @@
-// The machine: it checks program files and runs them on 64-bit words (01, "Runs, words, samples").
-mod checking;
+// The machine: it runs program files on 64-bit words (01, "Runs, words, samples").
 mod runs;
 mod state;
 mod steps;
 
-pub use checking::check;
 pub use runs::Ran;
 pub use runs::Run;
 pub use runs::resume;

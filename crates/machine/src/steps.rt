@@ -3,9 +3,10 @@ ghost use mathlib.Core.Path.{_≡_};
 ghost use mathlib.Core.Bool.{true};
 ghost use Prim.Native.Nat.{_+_, _*_, _≤_, _<_, min};
 ghost use lib.ListN.{drop, length};
-ghost use Rattle.files.specs.Fields.{fieldOf};
-ghost use Rattle.machine.specs.Standing.{Formed, Four, Gate, Known, Ready, Standing};
-ghost use Rattle.machine.specs.Turns.{Along, andWords, Carried, Does, orWords};
+ghost use Rattle.fields.specs.Fields.{fieldOf};
+ghost use Rattle.checker.specs.Standing.{Formed, Four, Gate, Known, ReadyAt, Standing};
+ghost use Rattle.machine.specs.Steps.{conjunction, disjunction, Does, gateWords};
+ghost use Rattle.machine.specs.Turns.{Along, RunLeaves};
 use programs::Instruction;
 
 // The 16-bit field at `at`, in bytes that hold it.
@@ -14,14 +15,6 @@ pub(crate) fn field_at(file: &[u8], at: usize) -> usize
     ensures { λ r. ⌜ (r ≡ fieldOf (now (file .entry)) at) × (r < 65536) ⌝ }
 {
     (file[at] as usize) + 256 * (file[at + 1] as usize)
-}
-
-// The 32-bit number at `at`, in bytes that hold it.
-pub(crate) fn wide_at(file: &[u8], at: usize) -> usize
-    requires { ⌜ at + 4 ≤ length (now file) ⌝ }
-    ensures { λ r. ⌜ (r ≡ fieldOf (now (file .entry)) at + 65536 * fieldOf (now (file .entry)) (at + 2)) × (fieldOf (now (file .entry)) at < 65536) ⌝ }
-{
-    field_at(file, at) + 65536 * field_at(file, at + 2)
 }
 
 pub(crate) fn lesser(a: usize, b: usize) -> usize
@@ -33,7 +26,7 @@ pub(crate) fn lesser(a: usize, b: usize) -> usize
 // The AND at byte `at`.
 fn and_at(file: &[u8], at: usize, registers: &mut [u64])
     requires { ⌜ Gate (now file) at (length (now registers)) ⌝ }
-    ensures { λ _. ⌜ now (registers .exit) ≡ andWords (now (file .entry)) at (now (registers .entry)) ⌝ }
+    ensures { λ _. ⌜ now (registers .exit) ≡ gateWords conjunction (now (file .entry)) at (now (registers .entry)) ⌝ }
 {
     let to = field_at(file, at + 4);
     let a = field_at(file, at + 6);
@@ -44,7 +37,7 @@ fn and_at(file: &[u8], at: usize, registers: &mut [u64])
 // The OR at byte `at`.
 fn or_at(file: &[u8], at: usize, registers: &mut [u64])
     requires { ⌜ Gate (now file) at (length (now registers)) ⌝ }
-    ensures { λ _. ⌜ now (registers .exit) ≡ orWords (now (file .entry)) at (now (registers .entry)) ⌝ }
+    ensures { λ _. ⌜ now (registers .exit) ≡ gateWords disjunction (now (file .entry)) at (now (registers .entry)) ⌝ }
 {
     let to = field_at(file, at + 4);
     let a = field_at(file, at + 6);
@@ -60,8 +53,11 @@ fn step_at(
     registers: &mut [u64],
     outputs: &mut [u64],
 ) -> usize
-    requires { ⌜ Ready (now file) at (length (now registers)) (length (now inputs)) (length (now outputs)) ⌝ }
-    ensures { λ r. ⌜ Does (now (file .entry)) at (now (inputs .entry)) (now (registers .entry)) (now (outputs .entry)) r (now (registers .exit)) (now (outputs .exit)) ⌝ }
+    requires { ⌜ ReadyAt (now file) at (length (now registers)) (length (now inputs)) (length (now outputs)) ⌝ }
+    ensures { λ r. ⌜ (
+        Does (now (file .entry)) at (now (inputs .entry)) (now (registers .entry)) (now (outputs .entry)) r (now (registers .exit))
+        (now (outputs .exit))
+        ) ⌝ }
 {
     let kind = field_at(file, at + 2);
     if kind == Instruction::KIND_AND {
@@ -210,7 +206,10 @@ pub(crate) fn run_from(
     outputs: &mut [u64],
 )
     requires { ⌜ Formed steps (length (now registers)) (length (now inputs)) (length (now outputs)) (drop from (now file)) ⌝ }
-    ensures { λ _. ⌜ Carried (now (file .entry)) from steps (now (inputs .entry)) (now (registers .entry)) (now (outputs .entry)) (now (registers .exit)) (now (outputs .exit)) ⌝ }
+    ensures { λ _. ⌜ (
+        RunLeaves (now (file .entry)) from steps (now (inputs .entry)) (now (registers .entry)) (now (outputs .entry))
+        (now (registers .exit)) (now (outputs .exit))
+        ) ⌝ }
 {
     let mut more = steps;
     let mut at = from;

@@ -5,8 +5,8 @@ use mathlib.Core.List.{List, [], _∷_, _++_}
 use lib.Dec.{eqb, ltb}
 use lib.ListN.{length}
 use Rattle.laws.specs.Outcome.{Outcome, refused, gives, refuse, _>>_, _>>=_}
-use Rattle.files.specs.Fields.{fieldOf}
-use Rattle.files.specs.Refusal.{numberOf}
+use Rattle.fields.specs.Fields.{fieldOf}
+use Rattle.fields.specs.Refusal.{numberOf}
 use Rattle.programs.specs.Limits.{within}
 use Rattle.programs.specs.Records.{recordBytes}
 use Rattle.programs.specs.Instructions.{instructionBytes}
@@ -30,7 +30,12 @@ headerBytes p =
 -- the numbers that a header's fields say
 unfoldable pub numbersOf : List ℕ → Program
 numbersOf file =
-    record { registers = fieldOf file 4; inputs = fieldOf file 6; outputs = fieldOf file 8; count = fieldOf file 10 + 65536 * fieldOf file 12 }
+    record {
+      registers = fieldOf file 4;
+      inputs = fieldOf file 6;
+      outputs = fieldOf file 8;
+      count = fieldOf file 10 + 65536 * fieldOf file 12;
+    }
 
 -- the header at the front of a file: refusals 1 to 4
 unfoldable pub headerOf : List ℕ → Outcome Program

@@ -5,8 +5,8 @@ use mathlib.Core.List.{List, [], _∷_}
 use lib.Dec.{eqb, ltb}
 use lib.ListN.{length, drop}
 use Rattle.laws.specs.Outcome.{Outcome, refused, gives, refuse, _>>_, _>>=_}
-use Rattle.files.specs.Fields.{fieldOf}
-use Rattle.files.specs.Refusal.{numberOf}
+use Rattle.fields.specs.Fields.{fieldOf}
+use Rattle.fields.specs.Refusal.{numberOf}
 use Rattle.programs.specs.Records.{recordBytes}
 use Rattle.programs.specs.declared.description.Instruction.{Instruction}
 use Rattle.programs.specs.declared.instructions.Decoded.{Decoded}

@@ -12,10 +12,11 @@ use lib.ListN.{length, getD, take, drop, length-append, length-drop}
 use lib.Seq.{getD-drop, drop-cons, take-at}
 use Rattle.laws.specs.Lay.{lay, layAt, drop-laid, laid-back}
 use Rattle.laws.specs.Outcome.{Outcome, gives, laid, passed, bound, gives-inj, no-result}
-use Rattle.files.specs.Fields.{fieldOf, field-small}
+use Rattle.fields.specs.Fields.{fieldOf, field-small}
 use Rattle.programs.specs.Limits.{within}
 use Rattle.programs.specs.Records.{recordBytes}
-use Rattle.programs.specs.Reading.{length-instruction, encode-gives, header-long, header-read, write-header-gives}
+use Rattle.programs.specs.Reading.{length-fields, length-instruction, encode-gives}
+use Rattle.programs.specs.Reading.{header-long, header-numbers, header-read, write-header-gives}
 use Rattle.programs.specs.Instructions.{ofKind, sizedOf, kindOf, lengthOf, operandsOf, instructionBytes, encodeOf, decodeOf, decodeAt}
 use Rattle.programs.specs.Header.{header-length, header-kind, headerBytes, headerOf, writeHeaderOf, numbersOf}
 use Rattle.programs.specs.declared.description.Program.{Program}
@@ -59,21 +60,29 @@ decode-reads bytes i e =
     }
 
 -- ---- the table read both ways
-either-test : {P : Type 0} (b : Bool) (i j : Instruction) (o : Outcome Instruction) → (b ≡ true → j ≡ i → P) → (o ≡ gives i → P) →
-    cond b (gives j) o ≡ gives i → P
+-- what a kind and its operands say of the instruction that they name
+pub record Named (k a b d : ℕ) (i : Instruction) : Type 0 where
+  pub kind : k ≡ kindOf i
+  pub operands : operandsOf i ≡ take (length (operandsOf i)) (a ∷ b ∷ d ∷ [])
+
+either-test : {P : Type 0} (t : Bool) (i j : Instruction) (o : Outcome Instruction) → (t ≡ true → j ≡ i → P) → (o ≡ gives i → P) →
+    cond t (gives j) o ≡ gives i → P
 either-test true i j o yes-it no-not e = yes-it refl (gives-inj e)
 either-test false i j o yes-it no-not e = no-not e
 
-pub named-kind : (k a b d : ℕ) (i : Instruction) → ofKind k a b d ≡ gives i → k ≡ kindOf i
-named-kind k a b d i =
-    either-test (eqb k 1) i (Ones a) _ (λ t q. eqb-true k 1 t ∙ ap kindOf q)
-    (either-test (eqb k 2) i (Zero a) _ (λ t q. eqb-true k 2 t ∙ ap kindOf q)
-    (either-test (eqb k 3) i (Input a b) _ (λ t q. eqb-true k 3 t ∙ ap kindOf q)
-    (either-test (eqb k 4) i (Not a b) _ (λ t q. eqb-true k 4 t ∙ ap kindOf q)
-    (either-test (eqb k 5) i (And a b d) _ (λ t q. eqb-true k 5 t ∙ ap kindOf q)
-    (either-test (eqb k 6) i (Or a b d) _ (λ t q. eqb-true k 6 t ∙ ap kindOf q)
-    (either-test (eqb k 7) i (Output a b) _ (λ t q. eqb-true k 7 t ∙ ap kindOf q)
+pub named : (k a b d : ℕ) (i : Instruction) → ofKind k a b d ≡ gives i → Named k a b d i
+named k a b d i =
+    either-test (eqb k 1) i (Ones a) _ (λ t q. rw (← q) (record { kind = eqb-true k 1 t; operands = refl }))
+    (either-test (eqb k 2) i (Zero a) _ (λ t q. rw (← q) (record { kind = eqb-true k 2 t; operands = refl }))
+    (either-test (eqb k 3) i (Input a b) _ (λ t q. rw (← q) (record { kind = eqb-true k 3 t; operands = refl }))
+    (either-test (eqb k 4) i (Not a b) _ (λ t q. rw (← q) (record { kind = eqb-true k 4 t; operands = refl }))
+    (either-test (eqb k 5) i (And a b d) _ (λ t q. rw (← q) (record { kind = eqb-true k 5 t; operands = refl }))
+    (either-test (eqb k 6) i (Or a b d) _ (λ t q. rw (← q) (record { kind = eqb-true k 6 t; operands = refl }))
+    (either-test (eqb k 7) i (Output a b) _ (λ t q. rw (← q) (record { kind = eqb-true k 7 t; operands = refl }))
     (no-result 7 i)))))))
+
+pub named-kind : (k a b d : ℕ) (i : Instruction) → ofKind k a b d ≡ gives i → k ≡ kindOf i
+named-kind k a b d i e = named k a b d i e .kind
 
 -- ---- a header
 -- what is read says of the bytes
@@ -142,7 +151,8 @@ numbers-written p rest = rw (field-back (p .registers), field-back (p .inputs), 
 pub header-written : (p : Program) (rest : List ℕ) → within p ≡ true → headerOf (headerBytes p ++ rest) ≡ gives p
 unfolding headerBytes recordBytes fieldOf
 header-written p rest w =
-    sym (header-read (headerBytes p ++ rest) (omega arith) header-kind refl refl p (numbers-written p rest) w header-length refl refl)
+    let numbers = header-numbers (headerBytes p ++ rest) (omega arith) header-kind refl refl p (numbers-written p rest) in
+    sym (header-read (headerBytes p ++ rest) p numbers w header-length refl refl)
 
 -- ---- bytes are written back as they are read
 -- n fields from byte k on
@@ -170,40 +180,22 @@ module _ (bytes : List ℕ) (byte : (i : ℕ) → getD bytes i 0 < 256) where
       ap (λ (j : ℕ). drop j bytes) at
   record-back (suc n) k h =
       let at : k + 2 * suc n ≡ (k + 2) + 2 * n = omega arith in
-      rw (low-back (getD bytes k 0) (getD bytes (k + 1) 0) (byte k), high-back (getD bytes k 0) (getD bytes (k + 1) 0) (byte k), at)
-      (two-ahead bytes k (omega arith) ∙ ap (λ (l : List ℕ). getD bytes k 0 ∷ getD bytes (k + 1) 0 ∷ l) (record-back n (k + 2) (omega arith)))
-
-operands-named : (k a b d : ℕ) (i : Instruction) → ofKind k a b d ≡ gives i → operandsOf i ≡ take (length (operandsOf i)) (a ∷ b ∷ d ∷ [])
-operands-named k a b d i =
-    either-test (eqb k 1) i (Ones a) _ (λ t q. rw (← q))
-    (either-test (eqb k 2) i (Zero a) _ (λ t q. rw (← q))
-    (either-test (eqb k 3) i (Input a b) _ (λ t q. rw (← q))
-    (either-test (eqb k 4) i (Not a b) _ (λ t q. rw (← q))
-    (either-test (eqb k 5) i (And a b d) _ (λ t q. rw (← q))
-    (either-test (eqb k 6) i (Or a b d) _ (λ t q. rw (← q))
-    (either-test (eqb k 7) i (Output a b) _ (λ t q. rw (← q))
-    (no-result 7 i)))))))
+      let x : ℕ = getD bytes k 0 in
+      let y : ℕ = getD bytes (k + 1) 0 in
+      rw (low-back x y (byte k), high-back x y (byte k), at)
+      (two-ahead bytes k (omega arith) ∙ ap (λ (l : List ℕ). x ∷ y ∷ l) (record-back n (k + 2) (omega arith)))
 
 -- the fields of an instruction that is read
-fields-named : (bytes : List ℕ) (i : Instruction) → fieldOf bytes 0 ≡ lengthOf i → fieldOf bytes 2 ≡ kindOf i →
-    operandsOf i ≡ take (length (operandsOf i)) (fieldOf bytes 4 ∷ fieldOf bytes 6 ∷ fieldOf bytes 8 ∷ []) →
+fields-named : (bytes : List ℕ) (i : Instruction) → fieldOf bytes 0 ≡ lengthOf i →
+    Named (fieldOf bytes 2) (fieldOf bytes 4) (fieldOf bytes 6) (fieldOf bytes 8) i →
     fieldsOf (2 + length (operandsOf i)) 0 bytes ≡ lengthOf i ∷ kindOf i ∷ operandsOf i
-fields-named bytes (Ones to) l k o = rw (l, k, o)
-fields-named bytes (Zero to) l k o = rw (l, k, o)
-fields-named bytes (Input to n) l k o = rw (l, k, o)
-fields-named bytes (Not to a) l k o = rw (l, k, o)
-fields-named bytes (And to a b) l k o = rw (l, k, o)
-fields-named bytes (Or to a b) l k o = rw (l, k, o)
-fields-named bytes (Output to a) l k o = rw (l, k, o)
-
-length-fields : (i : Instruction) → lengthOf i ≡ 2 * (2 + length (operandsOf i))
-length-fields (Ones to) = refl
-length-fields (Zero to) = refl
-length-fields (Input to n) = refl
-length-fields (Not to a) = refl
-length-fields (And to a b) = refl
-length-fields (Or to a b) = refl
-length-fields (Output o a) = refl
+fields-named bytes (Ones to) l n = rw (l, n .kind, n .operands)
+fields-named bytes (Zero to) l n = rw (l, n .kind, n .operands)
+fields-named bytes (Input to n) l m = rw (l, m .kind, m .operands)
+fields-named bytes (Not to a) l n = rw (l, n .kind, n .operands)
+fields-named bytes (And to a b) l n = rw (l, n .kind, n .operands)
+fields-named bytes (Or to a b) l n = rw (l, n .kind, n .operands)
+fields-named bytes (Output to a) l n = rw (l, n .kind, n .operands)
 
 pub instruction-back : (bytes : List ℕ) (i : Instruction) → ((k : ℕ) → getD bytes k 0 < 256) → decodeOf bytes ≡ gives i →
     bytes ≡ instructionBytes i ++ drop (lengthOf i) bytes
@@ -212,8 +204,7 @@ instruction-back bytes i byte e =
     let r = decode-reads bytes i e in
     let n : ℕ = 2 + length (operandsOf i) in
     let fields : fieldsOf n 0 bytes ≡ lengthOf i ∷ kindOf i ∷ operandsOf i =
-    fields-named bytes i (r .long) (named-kind (fieldOf bytes 2) (fieldOf bytes 4) (fieldOf bytes 6) (fieldOf bytes 8) i (r .named))
-    (operands-named (fieldOf bytes 2) (fieldOf bytes 4) (fieldOf bytes 6) (fieldOf bytes 8) i (r .named)) in
+    fields-named bytes i (r .long) (named (fieldOf bytes 2) (fieldOf bytes 4) (fieldOf bytes 6) (fieldOf bytes 8) i (r .named)) in
     let at : 0 + 2 * n ≡ lengthOf i = omega (arith, length-fields i) in
     rw (fields, at) at (record-back bytes byte n 0 (omega (arith, r .room)))
 
@@ -290,16 +281,16 @@ write-header-then-read p buf bytes e =
 
 -- a header that is read is written back as it stands, which changes nothing
 module _ (file : List ℕ) (p : Program) (byte : (k : ℕ) → getD file k 0 < 256) (e : headerOf file ≡ gives p) where
-  given : writeHeaderOf p (length file) ≡ gives (headerBytes p)
-  given =
+  header-given : writeHeaderOf p (length file) ≡ gives (headerBytes p)
+  header-given =
       let h = header-reads file p e in
       write-header-gives p (length file) (h .inside) (h .room)
 
   pub read-header-then-write : writeHeaderOf p (length file) ≡ gives (take header-length file)
   read-header-then-write =
-      given ∙
+      header-given ∙
       ap gives (front-is header-length (headerBytes p) (drop header-length file) file (header-long p) (header-back file p byte e))
 
   pub read-header-then-write-same : lay (laid (λ bytes. bytes) (writeHeaderOf p (length file))) file ≡ file
   unfolding lay
-  read-header-then-write-same = rw (given, header-long p) (sym (header-back file p byte e))
+  read-header-then-write-same = rw (header-given, header-long p) (sym (header-back file p byte e))

@@ -1,9 +1,10 @@
 -- 01, "Files": the limits of a program. Assumes nothing.
 use Prim.Native.Nat.{ℕ}
-use mathlib.Core.Bool.{Bool, false, _&&_}
+use mathlib.Core.Bool.{Bool, false, not, _&&_}
 use mathlib.Core.List.{List}
 use lib.Dec.{leb}
 use lib.ListN.{replicate}
+use Rattle.fields.specs.Limits.{outside}
 use Rattle.programs.specs.declared.description.Program.{Program}
 
 abbrev pub most-registers : ℕ
@@ -20,11 +21,13 @@ most-instructions = 131072
 
 -- whether a number is 1 to most
 abbrev pub among : ℕ → ℕ → Bool
-among most x = leb 1 x && leb x most
+among most x = not (outside most x)
 
 -- whether a header's numbers are within the limits
 abbrev pub within : Program → Bool
-within p = among most-registers (p .registers) && among most-inputs (p .inputs) && among most-outputs (p .outputs) && leb (p .count) most-instructions
+within p =
+    among most-registers (p .registers) && among most-inputs (p .inputs) && among most-outputs (p .outputs) &&
+    leb (p .count) most-instructions
 
 -- no register written, no output set; shut, since a thousand of them in a goal help nobody
 unfoldable pub unwritten : List Bool

@@ -1,24 +1,70 @@
--- The ways through the checks of an instruction and of a header. Assumes nothing.
-use Prim.Native.Nat.{ℕ, _+_, _*_, _≤_, _<_}
+-- The ways through the checks of an instruction and of a header, and what the limits say. Assumes nothing.
+use Prim.Native.Nat.{ℕ, _+_, _-_, _*_, _/_, _%_, _≤_, _<_}
 use mathlib.Core.Path.{_≡_, refl, sym, ap, _∙_}
-use mathlib.Core.Bool.{true, false}
-use mathlib.Core.List.{List}
+use mathlib.Core.Bool.{true, false, not}
+use mathlib.Core.List.{List, [], _∷_}
 use native.Mathlib.Omega.{arith}
-use borrow.Author.Tests.{lt-ltb, le-ltb, eq-eqb, ne-eqb, leb-true}
-use lib.Dec.{leb}
+use borrow.Author.Tests.{lt-ltb, le-ltb, ltb-false, le-leb, leb-true, eq-eqb, ne-eqb, not-true}
+use lib.Dec.{eqb, ltb}
 use lib.ListN.{length, take, drop, length-drop}
-use lib.Seq.{take-all}
-use Rattle.laws.specs.Tests.{both}
+use Rattle.laws.specs.Tests.{both, neither}
+use Rattle.laws.specs.Lists.{rest-is}
 use Rattle.laws.specs.Lay.{layAt, layAt-nothing}
-use Rattle.laws.specs.Outcome.{Outcome, refused, gives, mapped, laid, _>>_, _>>=_}
-use Rattle.files.specs.Fields.{fieldOf}
+use Rattle.laws.specs.Outcome.{Outcome, refused, gives, refuse, mapped, laid, _>>_, _>>=_}
+use Rattle.fields.specs.Fields.{fieldOf, fieldBytes}
+use Rattle.fields.specs.Limits.{outside}
 use Rattle.programs.specs.Limits.{most-registers, most-inputs, most-outputs, most-instructions, among, within}
-use Rattle.programs.specs.Records.{recordBytes}
-use Rattle.programs.specs.Instructions.{ofKind, sizedOf, lengthOf, instructionBytes, encodeOf, decodeOf, decodeAt}
+use Rattle.programs.specs.Records.{recordBytes, length-record, field-after}
+use Rattle.programs.specs.Instructions.{ofKind, sizedOf, kindOf, lengthOf, operandsOf, instructionBytes, encodeOf, decodeOf, decodeAt}
 use Rattle.programs.specs.Header.{header-length, header-kind, headerBytes, headerOf, writeHeaderOf, numbersOf}
 use Rattle.programs.specs.declared.description.Program.{Program}
 use Rattle.programs.specs.declared.description.Instruction.{Instruction}
 use Rattle.programs.specs.declared.description.Instruction.the-variants.{Ones, Zero, Input, Not, And, Or, Output}
+
+-- ---- the limits
+among-means : (most x : ℕ) → among most x ≡ true → (1 ≤ x) × (x ≤ most)
+among-means most x e =
+    let s = neither (ltb x 1) (ltb most x) (not-true (outside most x) e) in
+    (ltb-false x 1 (s .0), ltb-false most x (s .1))
+
+pub among-limits : (most x : ℕ) → 1 ≤ x → x ≤ most → among most x ≡ true
+among-limits most x a b = rw (le-ltb x 1 a, le-ltb most x b)
+
+pub record Within (p : Program) : Type 0 where
+  pub some-registers : 1 ≤ p .registers
+  pub few-registers : p .registers ≤ most-registers
+  pub some-inputs : 1 ≤ p .inputs
+  pub few-inputs : p .inputs ≤ most-inputs
+  pub some-outputs : 1 ≤ p .outputs
+  pub few-outputs : p .outputs ≤ most-outputs
+  pub few-instructions : p .count ≤ most-instructions
+
+pub within-means : (p : Program) → within p ≡ true → Within p
+within-means p e =
+    let abc = both _ _ e in
+    let ab = both _ _ (abc .0) in
+    let a = both _ _ (ab .0) in
+    let r = among-means most-registers (p .registers) (a .0) in
+    let i = among-means most-inputs (p .inputs) (a .1) in
+    let o = among-means most-outputs (p .outputs) (ab .1) in
+    record {
+      some-registers = r .0;
+      few-registers = r .1;
+      some-inputs = i .0;
+      few-inputs = i .1;
+      some-outputs = o .0;
+      few-outputs = o .1;
+      few-instructions = leb-true (p .count) most-instructions (abc .1);
+    }
+
+pub limits-hold : (p : Program) → Within p → within p ≡ true
+limits-hold p w =
+    rw (
+      among-limits most-registers (p .registers) (w .some-registers) (w .few-registers),
+      among-limits most-inputs (p .inputs) (w .some-inputs) (w .few-inputs),
+      among-limits most-outputs (p .outputs) (w .some-outputs) (w .few-outputs),
+      le-leb (p .count) most-instructions (w .few-instructions),
+    )
 
 -- ---- an instruction
 pub decode-short : (bytes : List ℕ) → length bytes < 4 → refused 1 ≡ decodeOf bytes
@@ -30,40 +76,44 @@ unfolding decodeAt
 decode-beyond file at h = decode-short (drop at file) (rw (length-drop at file) (omega arith))
 
 -- the rest of the file, as the code takes it
-pub decode-part : (file : List ℕ) (at n : ℕ) → length file ≤ at + n → (o : Outcome Instruction) → o ≡ decodeOf (take n (drop at file)) → o ≡ decodeAt file at
+pub decode-part : (file : List ℕ) (at : ℕ) (o : Outcome Instruction) →
+    o ≡ decodeOf (take (length file - at) (drop at file)) → o ≡ decodeAt file at
 unfolding decodeAt
-decode-part file at n h o e = e ∙ ap decodeOf (take-all n (drop at file) (rw (length-drop at file) (omega arith)))
+decode-part file at o e = e ∙ ap decodeOf (rest-is at file)
 
 module _ (bytes : List ℕ) (len : ℕ) (is-len : len ≡ fieldOf bytes 0) (h : 4 ≤ length bytes) where
   pub decode-cut : length bytes < len → refused 1 ≡ decodeOf bytes
   unfolding decodeOf
   decode-cut l = rw (le-ltb (length bytes) 4 h, lt-ltb (length bytes) (fieldOf bytes 0) (omega arith))
 
-  module _ (l : len ≤ length bytes) (kind to a b : ℕ) (is-to : to ≡ fieldOf bytes 4) (is-a : a ≡ fieldOf bytes 6) (is-b : b ≡ fieldOf bytes 8)
-      (is-kind : kind ≡ fieldOf bytes 2) where
-    whole : decodeOf bytes ≡ (ofKind kind to a b >>= sizedOf len)
+  module _ (l : len ≤ length bytes) (kind to a b : ℕ) (is-to : to ≡ fieldOf bytes 4) (is-a : a ≡ fieldOf bytes 6)
+      (is-b : b ≡ fieldOf bytes 8) (is-kind : kind ≡ fieldOf bytes 2) where
+    pub decode-kind : decodeOf bytes ≡ (ofKind kind to a b >>= sizedOf len)
     unfolding decodeOf
-    whole = rw (le-ltb (length bytes) 4 h, le-ltb (length bytes) (fieldOf bytes 0) (omega arith), is-len, is-to, is-a, is-b, is-kind)
+    decode-kind =
+        rw (le-ltb (length bytes) 4 h, le-ltb (length bytes) (fieldOf bytes 0) (omega arith), is-len, is-to, is-a, is-b, is-kind)
 
     pub decode-as : (i : Instruction) (o : Outcome Instruction) → ofKind kind to a b ≡ gives i → o ≡ sizedOf len i → o ≡ decodeOf bytes
-    decode-as i o e q = q ∙ sym (whole ∙ rw e)
+    decode-as i o e q = q ∙ sym (decode-kind ∙ rw e)
 
-    pub decode-unknown : (kind ≡ 1 → ⊥) → (kind ≡ 2 → ⊥) → (kind ≡ 3 → ⊥) → (kind ≡ 4 → ⊥) → (kind ≡ 5 → ⊥) → (kind ≡ 6 → ⊥) → (kind ≡ 7 → ⊥) →
-        refused 7 ≡ decodeOf bytes
-    decode-unknown n1 n2 n3 n4 n5 n6 n7 =
-        sym (whole ∙
-        rw (ne-eqb kind 1 n1, ne-eqb kind 2 n2, ne-eqb kind 3 n3, ne-eqb kind 4 n4, ne-eqb kind 5 n5, ne-eqb kind 6 n6, ne-eqb kind 7 n7))
+pub no-kind : (k a b d : ℕ) → (k ≡ 1 → ⊥) → (k ≡ 2 → ⊥) → (k ≡ 3 → ⊥) → (k ≡ 4 → ⊥) → (k ≡ 5 → ⊥) → (k ≡ 6 → ⊥) → (k ≡ 7 → ⊥) →
+    ofKind k a b d ≡ refused 7
+no-kind k a b d n1 n2 n3 n4 n5 n6 n7 =
+    rw (ne-eqb k 1 n1, ne-eqb k 2 n2, ne-eqb k 3 n3, ne-eqb k 4 n4, ne-eqb k 5 n5, ne-eqb k 6 n6, ne-eqb k 7 n7)
 
 -- ---- writing an instruction
+pub length-fields : (i : Instruction) → lengthOf i ≡ 2 * (2 + length (operandsOf i))
+length-fields (Ones to) = refl
+length-fields (Zero to) = refl
+length-fields (Input to n) = refl
+length-fields (Not to a) = refl
+length-fields (And to a b) = refl
+length-fields (Or to a b) = refl
+length-fields (Output o a) = refl
+
 pub length-instruction : (i : Instruction) → length (instructionBytes i) ≡ lengthOf i
-unfolding instructionBytes recordBytes
-length-instruction (Ones to) = refl
-length-instruction (Zero to) = refl
-length-instruction (Input to n) = refl
-length-instruction (Not to a) = refl
-length-instruction (And to a b) = refl
-length-instruction (Or to a b) = refl
-length-instruction (Output o a) = refl
+unfolding instructionBytes
+length-instruction i = omega (arith, length-record (lengthOf i ∷ kindOf i ∷ operandsOf i), length-fields i)
 
 pub header-long : (p : Program) → length (headerBytes p) ≡ header-length
 unfolding headerBytes recordBytes
@@ -94,38 +144,35 @@ pub header-short : (file : List ℕ) → length file < header-length → refused
 unfolding headerOf
 header-short file h = rw (lt-ltb (length file) header-length h)
 
+-- what is left to check of a file that is long enough and of the kind, where its numbers are p
+unfoldable pub afterKind : List ℕ → Program → Outcome Program
+afterKind file p = do
+  refuse 3 (not (within p))
+  refuse 4 (not (eqb (fieldOf file 0) header-length))
+  gives p
+
 module _ (file : List ℕ) (h : header-length ≤ length file) (kind : ℕ) (is-kind : kind ≡ fieldOf file 2) where
   pub header-other : (kind ≡ header-kind → ⊥) → refused 2 ≡ headerOf file
   unfolding headerOf
   header-other k = rw (le-ltb (length file) header-length h, ne-eqb (fieldOf file 2) header-kind (λ e. k (is-kind ∙ e)))
 
-  module _ (k : kind ≡ header-kind) (p : Program) (is-p : p ≡ numbersOf file) where
-    pub header-outside : within p ≡ false → refused 3 ≡ headerOf file
-    unfolding headerOf
-    header-outside w =
-        rw (le-ltb (length file) header-length h, eq-eqb (fieldOf file 2) header-kind (sym is-kind ∙ k), ← is-p, w)
+  pub header-numbers : kind ≡ header-kind → (p : Program) → p ≡ numbersOf file → headerOf file ≡ afterKind file p
+  unfolding headerOf afterKind
+  header-numbers k p is-p = rw (le-ltb (length file) header-length h, eq-eqb (fieldOf file 2) header-kind (sym is-kind ∙ k), is-p)
 
-    pub header-length-wrong : within p ≡ true → (len : ℕ) → len ≡ fieldOf file 0 → (len ≡ header-length → ⊥) → refused 4 ≡ headerOf file
-    unfolding headerOf
-    header-length-wrong w len e n =
-        rw (
-          le-ltb (length file) header-length h,
-          eq-eqb (fieldOf file 2) header-kind (sym is-kind ∙ k),
-          ← is-p,
-          w,
-          ne-eqb (fieldOf file 0) header-length (λ q. n (e ∙ q)),
-        )
+module _ (file : List ℕ) (p : Program) (e : headerOf file ≡ afterKind file p) where
+  pub header-outside : within p ≡ false → refused 3 ≡ headerOf file
+  unfolding afterKind
+  header-outside w = sym (e ∙ rw w)
 
-    pub header-read : within p ≡ true → (len : ℕ) → len ≡ fieldOf file 0 → len ≡ header-length → gives p ≡ headerOf file
-    unfolding headerOf
-    header-read w len e n =
-        rw (
-          le-ltb (length file) header-length h,
-          eq-eqb (fieldOf file 2) header-kind (sym is-kind ∙ k),
-          ← is-p,
-          w,
-          eq-eqb (fieldOf file 0) header-length (sym e ∙ n),
-        )
+  module _ (w : within p ≡ true) (len : ℕ) (is-len : len ≡ fieldOf file 0) where
+    pub header-length-wrong : (len ≡ header-length → ⊥) → refused 4 ≡ headerOf file
+    unfolding afterKind
+    header-length-wrong n = sym (e ∙ rw (w, ne-eqb (fieldOf file 0) header-length (λ q. n (is-len ∙ q))))
+
+    pub header-read : len ≡ header-length → gives p ≡ headerOf file
+    unfolding afterKind
+    header-read q = sym (e ∙ rw (w, eq-eqb (fieldOf file 0) header-length (sym is-len ∙ q)))
 
 -- ---- writing a header
 module _ (p : Program) (room : ℕ) where
@@ -141,35 +188,17 @@ module _ (p : Program) (room : ℕ) where
   unfolding writeHeaderOf
   write-header-gives w h = rw (w, le-ltb room header-length h)
 
--- what the limits say
-in-limits : (most x : ℕ) → among most x ≡ true → (1 ≤ x) × (x ≤ most)
-in-limits most x e =
-    let s = both (leb 1 x) (leb x most) e in
-    (leb-true 1 x (s .0), leb-true x most (s .1))
+-- a header is stored field by field: five fields of a record, then the count's two
+pub header-stored : (p : Program) (buf b1 b2 b3 : List ℕ) →
+    b1 ≡ layAt 0 (recordBytes (header-length ∷ header-kind ∷ p .registers ∷ p .inputs ∷ p .outputs ∷ [])) buf →
+    b2 ≡ layAt 10 (fieldBytes (p .count % 65536)) b1 → b3 ≡ layAt 12 (fieldBytes (p .count / 65536)) b2 → header-length ≤ length buf →
+    b3 ≡ layAt 0 (headerBytes p) buf
+unfolding headerBytes
+header-stored p buf b1 b2 b3 e1 e2 e3 h =
+    field-after _ _ _ five-one _ _ _ _ (field-after _ _ _ five five-one _ _ _ e1 e2 refl refl (omega arith)) e3 refl refl h
+  where
+    five : List ℕ
+    five = header-length ∷ header-kind ∷ p .registers ∷ p .inputs ∷ p .outputs ∷ []
 
-pub record Within (p : Program) : Type 0 where
-  pub some-registers : 1 ≤ p .registers
-  pub few-registers : p .registers ≤ most-registers
-  pub some-inputs : 1 ≤ p .inputs
-  pub few-inputs : p .inputs ≤ most-inputs
-  pub some-outputs : 1 ≤ p .outputs
-  pub few-outputs : p .outputs ≤ most-outputs
-  pub few-instructions : p .count ≤ most-instructions
-
-pub within-means : (p : Program) → within p ≡ true → Within p
-within-means p e =
-    let abc = both _ _ e in
-    let ab = both _ _ (abc .0) in
-    let a = both _ _ (ab .0) in
-    let r = in-limits most-registers (p .registers) (a .0) in
-    let i = in-limits most-inputs (p .inputs) (a .1) in
-    let o = in-limits most-outputs (p .outputs) (ab .1) in
-    record {
-      some-registers = r .0;
-      few-registers = r .1;
-      some-inputs = i .0;
-      few-inputs = i .1;
-      some-outputs = o .0;
-      few-outputs = o .1;
-      few-instructions = leb-true (p .count) most-instructions (abc .1);
-    }
+    five-one : List ℕ
+    five-one = header-length ∷ header-kind ∷ p .registers ∷ p .inputs ∷ p .outputs ∷ p .count % 65536 ∷ []

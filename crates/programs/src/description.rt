@@ -26,7 +26,7 @@ pub enum Instruction {
 fn among(most: usize, x: usize) -> bool
     ensures { λ r. ⌜ r ≡ among most x ⌝ }
 {
-    (1 <= x) & (x <= most)
+    !((x < 1) | (most < x))
 }
 
 impl Program {

@@ -5,15 +5,15 @@ ghost use Prim.Native.Nat.{_≤_};
 ghost use lib.ListN.{length};
 ghost use Rattle.laws.specs.Lay.{lay, layAt};
 ghost use Rattle.laws.specs.Outcome.{laid, mapped};
-ghost use Rattle.files.specs.Files.{written};
+ghost use Rattle.fields.specs.Refusal.{written};
 ghost use Rattle.programs.specs.Limits.{within};
 ghost use Rattle.programs.specs.Header.{checked, header-length, headerBytes, headerOf, writeHeaderOf};
 use crate::description::Program;
-use crate::fields::put;
-use crate::fields::put_five;
-use files::Refusal;
-use files::Written;
-use files::field;
+use crate::storing::put;
+use crate::storing::put_five;
+use fields::Refusal;
+use fields::Written;
+use fields::field;
 
 // A refusal, or a program's header.
 pub enum Checked {
@@ -61,8 +61,10 @@ fn store_header(p: Program, out: &mut [u8])
 
 // Writes a header at the front of `out`, and answers its length; or refusal 3 where it is outside the limits, then 13.
 pub fn write_header(p: Program, out: &mut [u8]) -> Written
-    ensures { λ r. ⌜ written r ≡ mapped length (writeHeaderOf p (length (now (out .entry)))) ⌝ }
-    ensures { λ r. ⌜ now (out .exit) ≡ lay (laid (λ bytes. bytes) (writeHeaderOf p (length (now (out .entry))))) (now (out .entry)) ⌝ }
+    ensures { λ r. ⌜ (
+        let o = writeHeaderOf p (length (now (out .entry))) in
+        (written r ≡ mapped length o) × (now (out .exit) ≡ lay (laid (λ bytes. bytes) o) (now (out .entry)))
+        ) ⌝ }
 {
     if !p.within() {
         return Written::Refused(Refusal::Size);

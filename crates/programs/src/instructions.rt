@@ -4,15 +4,15 @@ ghost use Prim.Native.Nat.{_+_, _≤_};
 ghost use lib.ListN.{length};
 ghost use Rattle.laws.specs.Lay.{layAt};
 ghost use Rattle.laws.specs.Outcome.{laid, mapped};
-ghost use Rattle.files.specs.Files.{written};
+ghost use Rattle.fields.specs.Refusal.{written};
 ghost use Rattle.programs.specs.Instructions.{decodeAt, decoded, decodeOf, encodeOf, instructionBytes, lengthOf, sizedOf};
 use crate::description::Instruction;
-use crate::fields::put_five;
-use crate::fields::put_four;
-use crate::fields::put_three;
-use files::Refusal;
-use files::Written;
-use files::field;
+use crate::storing::put_five;
+use crate::storing::put_four;
+use crate::storing::put_three;
+use fields::Refusal;
+use fields::Written;
+use fields::field;
 
 // A refusal, or an instruction.
 pub enum Decoded {
@@ -87,8 +87,10 @@ impl Instruction {
 
 // Writes an instruction at byte `at` of `out`, and answers its length; or refusal 13 where it has no room there.
 pub fn encode(i: Instruction, out: &mut [u8], at: usize) -> Written
-    ensures { λ r. ⌜ written r ≡ mapped length (encodeOf i at (length (now (out .entry)))) ⌝ }
-    ensures { λ r. ⌜ now (out .exit) ≡ layAt at (laid (λ bytes. bytes) (encodeOf i at (length (now (out .entry))))) (now (out .entry)) ⌝ }
+    ensures { λ r. ⌜ (
+        let o = encodeOf i at (length (now (out .entry))) in
+        (written r ≡ mapped length o) × (now (out .exit) ≡ layAt at (laid (λ bytes. bytes) o) (now (out .entry)))
+        ) ⌝ }
 {
     let length = i.length();
     if out.len() < at {

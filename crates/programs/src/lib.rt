@@ -1,8 +1,8 @@
 // The description of a Boolean program: its limits, its header, its instructions and their bytes (01, "Files").
 mod description;
-mod fields;
 mod headers;
 mod instructions;
+mod storing;
 
 pub use description::Instruction;
 pub use description::Program;

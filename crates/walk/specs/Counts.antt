@@ -8,13 +8,15 @@ use native.Mathlib.Omega.{arith}
 use lib.Dec.{eqb}
 use Rattle.laws.specs.Sums.{sumTo, sum-front, sum-pairs, sum-plus, sum-same}
 use Rattle.laws.specs.Digits.{number}
-use Rattle.files.specs.Live.{weight, total-from, total-step, go-on}
+use Rattle.files.specs.Matrix.{ones-in}
+use Rattle.files.specs.Live.{total-from, total-step, go-on}
 use Rattle.walk.specs.Walk.{Drawn, hit, miss, Place, found, left, at, scan, then, walk, hits, misses}
 use Rattle.walk.specs.Strings.{strings, strings-many, over, over-same, over-strings, one-if}
 
 -- ---- one row and one column
 -- a row, over the distances below b + n: 0 is hit where b is 1, and the others are one less
-at-sum : (b row n : ℕ) (go : ℕ → Place) (f : Place → ℕ) → b ≤ 1 → sumTo (b + n) (λ d. f (at b row d go)) ≡ b * f (found row) + sumTo n (λ d. f (go d))
+at-sum : (b row n : ℕ) (go : ℕ → Place) (f : Place → ℕ) → b ≤ 1 →
+    sumTo (b + n) (λ d. f (at b row d go)) ≡ b * f (found row) + sumTo n (λ d. f (go d))
 unfolding at
 at-sum zero row n go f h = rw zero-add (omega arith)
 at-sum (suc zero) row n go f h =
@@ -42,10 +44,14 @@ weigh f missed (hit row column) = f row
 weigh f missed miss = missed
 
 module _ (bit : ℕ → ℕ → ℕ) (m : ℕ) (f : ℕ → ℕ) (missed : ℕ) where
+  -- the walks from column c on at distance d, weighed over the strings of k columns
+  abbrev pub weighed : ℕ → ℕ → ℕ → ℕ
+  weighed k c d = over (strings k) (λ s. weigh f missed (walk bit m c d s))
+
   -- what a column leaves, weighed over the strings of the k columns after it
   after : ℕ → ℕ → Place → ℕ
   after k c (found row) = 2 ^ k * f row
-  after k c (left d) = over (strings k) (λ s. weigh f missed (walk bit m (suc c) d s))
+  after k c (left d) = weighed k (suc c) d
 
   after-is : (k c : ℕ) (o : Place) → over (strings k) (λ s. weigh f missed (then c o (λ e. walk bit m (suc c) e s))) ≡ after k c o
   unfolding after then weigh
@@ -53,33 +59,36 @@ module _ (bit : ℕ → ℕ → ℕ) (m : ℕ) (f : ℕ → ℕ) (missed : ℕ) 
   after-is k c (left d) = refl
 
   -- a first column and one bit
-  first-bit : (k c d b : ℕ) → over (strings k) (λ s. weigh f missed (walk bit m c d (b ∷ s))) ≡ after k c (scan (λ v. bit v c) m (2 * d + b))
+  first-bit : (k c d b : ℕ) →
+      over (strings k) (λ s. weigh f missed (walk bit m c d (b ∷ s))) ≡ after k c (scan (λ v. bit v c) m (2 * d + b))
   unfolding walk
   first-bit k c d b = after-is k c (scan (λ v. bit v c) m (2 * d + b))
 
-  first-column : (k c h : ℕ) → sumTo h (λ d. over (strings (suc k)) (λ s. weigh f missed (walk bit m c d s))) ≡ sumTo (2 * h) (λ d. after k c (scan (λ v. bit v c) m d))
+  first-column : (k c h : ℕ) → sumTo h (weighed (suc k) c) ≡ sumTo (2 * h) (λ d. after k c (scan (λ v. bit v c) m d))
   first-column k c h =
       ap (sumTo h)
       (fun-ext
       (λ d. over-strings k (λ s. weigh f missed (walk bit m c d s)) ∙ rw (first-bit k c d 0, first-bit k c d 1))) ∙
       sum-pairs h (λ d. after k c (scan (λ v. bit v c) m d))
 
-  step : (k c h s x : ℕ) → ((v : ℕ) → v < m → bit v c ≤ 1) → weight bit m c + x ≡ 2 * h →
-      sumTo x (λ d. over (strings k) (λ l. weigh f missed (walk bit m (suc c) d l))) ≡ sumTo m (λ v. number (bit v) (suc c) k * f v) + s * missed →
-      sumTo h (λ d. over (strings (suc k)) (λ l. weigh f missed (walk bit m c d l))) ≡ sumTo m (λ v. number (bit v) c (suc k) * f v) + s * missed
-  unfolding number weight after
+  step : (k c h s x : ℕ) → ((v : ℕ) → v < m → bit v c ≤ 1) → ones-in bit m c + x ≡ 2 * h →
+      sumTo x (weighed k (suc c)) ≡ sumTo m (λ v. number (bit v) (suc c) k * f v) + s * missed →
+      sumTo h (weighed (suc k) c) ≡ sumTo m (λ v. number (bit v) c (suc k) * f v) + s * missed
+  unfolding number ones-in after
   step k c h s x ok e ih =
+      let now : ℕ → ℕ = λ v. bit v c * (2 ^ k * f v) in
+      let later : ℕ → ℕ = λ v. number (bit v) (suc c) k * f v in
       first-column k c h ∙
       rw (← e) (omega (
         arith,
         scan-sum (λ v. bit v c) m x (after k c) ok,
         ih,
-        sum-plus m (λ v. number (bit v) c (suc k) * f v) (λ v. bit v c * (2 ^ k * f v)) (λ v. number (bit v) (suc c) k * f v) (λ v. omega arith),
+        sum-plus m (λ v. number (bit v) c (suc k) * f v) now later (λ v. omega arith),
       ))
 
   -- h distances before k columns that have room for them: each row weighs in as often as its number says, and s strings miss
   pub walks : (k c h s : ℕ) → ((v i : ℕ) → v < m → c ≤ i → i < c + k → bit v i ≤ 1) → h * 2 ^ k ≡ total-from bit m c k + s →
-      sumTo h (λ d. over (strings k) (λ l. weigh f missed (walk bit m c d l))) ≡ sumTo m (λ v. number (bit v) c k * f v) + s * missed
+      sumTo h (weighed k c) ≡ sumTo m (λ v. number (bit v) c k * f v) + s * missed
   unfolding strings over walk number total-from weigh
   walks zero c h s ok e =
       let z : sumTo m (λ v. 0) ≡ m * 0 = sum-same m 0 (λ v. 0) (λ v. refl) in
@@ -91,7 +100,7 @@ module _ (bit : ℕ → ℕ → ℕ) (m : ℕ) (f : ℕ → ℕ) (missed : ℕ) 
         ap (λ (y : ℕ). y * missed) eq,
       )
   walks (suc k) c h s ok e =
-      let x = go-on (weight bit m c) h (total-from bit m (suc c) k) k s (omega (arith, total-step bit m c k)) in
+      let x = go-on (ones-in bit m c) h (total-from bit m (suc c) k) k s (omega (arith, total-step bit m c k)) in
       step k c h s (x .0) (λ v l. ok v c l (omega arith) (omega arith)) (x .1)
       (walks k (suc c) (x .0) s (λ v i l a b. ok v i l (omega arith) (omega arith)) (x .2))
 

@@ -5,6 +5,5 @@ pub mod Steps
 pub mod Turns
 pub mod Ways
 pub mod Packed
-pub mod Matrices
 pub mod Counts
 pub mod Theorems

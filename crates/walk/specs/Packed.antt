@@ -11,18 +11,17 @@ use lib.ListN.{length, getD, length-append, List·getD-append}
 use lib.Seq.{take-all}
 use Rattle.laws.specs.Sums.{any}
 use Rattle.laws.specs.Digits.{digit, number-shift}
-use Rattle.laws.specs.Lay.{blocks, upto, upto-eq, take-is}
+use Rattle.laws.specs.Lists.{blocks, upto, upto-eq, take-is}
 use Rattle.laws.specs.Outcome.{refuse, gives, _>>_}
-use Rattle.files.specs.Fields.{width, packedBit, bitOf, packed, padded, padded-below, padded-above, length-packed, spare, spare-none}
-use Rattle.files.specs.Matrix.{outside, most-columns}
-use Rattle.files.specs.Checks.{inside}
-use Rattle.files.specs.Strings.{stringsOf}
-use Rattle.files.specs.RoundTrip.{packed-bit}
+use Rattle.fields.specs.Fields.{width, packedBit, bitOf, packed, padded, padded-below, padded-above, length-packed, spare, spare-none}
+use Rattle.fields.specs.Limits.{outside, most-columns, inside}
+use Rattle.fields.specs.Strings.{stringsOf}
+use Rattle.fields.specs.Fields.{packed-bit}
 use Rattle.walk.specs.Strings.{Bits}
 
 -- a string of bits, packed as a matrix row
-unfoldable pub pack : ℕ → List ℕ → List ℕ
-pack n s = packed n (λ i. getD s i 0)
+unfoldable pub packedString : ℕ → List ℕ → List ℕ
+packedString n s = packed n (λ i. getD s i 0)
 
 -- ---- one string: its checks
 pub one-string : (n : ℕ) (bytes : List ℕ) →
@@ -35,7 +34,8 @@ one-string n bytes = rw (one-mul (width n), zero-mul (width n)) (or-false (spare
     or-false true = refl
     or-false false = refl
 
-pub string-sound : (n : ℕ) (bytes : List ℕ) → 1 ≤ n → n ≤ most-columns → width n ≤ length bytes → spare bytes n 0 ≡ false → stringsOf 1 n bytes ≡ gives tt
+pub string-sound : (n : ℕ) (bytes : List ℕ) → 1 ≤ n → n ≤ most-columns → width n ≤ length bytes → spare bytes n 0 ≡ false →
+    stringsOf 1 n bytes ≡ gives tt
 string-sound n bytes a b l s = rw (one-string n bytes, inside most-columns n a b, le-ltb (length bytes) (width n) l, s)
 
 -- ---- the bits of packed bits
@@ -55,13 +55,13 @@ module _ (n : ℕ) (f : ℕ → ℕ) (ok : (i : ℕ) → i < n → f i ≤ 1) wh
 
 -- ---- a packed string is sound, and its bits are the string's
 module _ (n : ℕ) (s : List ℕ) (b : Bits n s) where
-  pub pack-sound : 1 ≤ n → n ≤ most-columns → stringsOf 1 n (pack n s) ≡ gives tt
-  unfolding pack
-  pack-sound = packed-sound n (λ i. getD s i 0) (b .each)
+  pub packedString-sound : 1 ≤ n → n ≤ most-columns → stringsOf 1 n (packedString n s) ≡ gives tt
+  unfolding packedString
+  packedString-sound = packed-sound n (λ i. getD s i 0) (b .each)
 
-  pub pack-bits : upto n (bitOf (pack n s) 0) ≡ s
-  unfolding pack
-  pack-bits =
+  pub packedString-bits : upto n (bitOf (packedString n s) 0) ≡ s
+  unfolding packedString
+  packedString-bits =
       upto-eq n (bitOf (packed n (λ i. getD s i 0)) 0) (λ i. getD s i 0) (string-bit n (λ i. getD s i 0) (b .each)) ∙
       (sym (take-is 0 n s (omega (arith, b .long))) ∙ take-all n s (omega (arith, b .long)))
 

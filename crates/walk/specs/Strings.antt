@@ -7,7 +7,7 @@ use native.Mathlib.Nat.{pow-succ'}
 use native.Mathlib.Omega.{arith}
 use lib.ListN.{length, getD, length-append, length-map}
 use Rattle.laws.specs.Tests.{same}
-use Rattle.laws.specs.Each.{Each, each-append, each-map, each-more}
+use Rattle.laws.specs.Lists.{Each, each-append, each-map, each-more}
 
 -- s is a string of n bits
 pub record Bits (n : ℕ) (s : List ℕ) : Type 0 where
@@ -55,7 +55,8 @@ module _ {A : Type 0} where
   over-eq f g (x ∷ xs) e = ap₂ _+_ (e .0) (over-eq f g xs (e .1))
 
 -- a sum over the strings splits by the first bit
-pub over-strings : (n : ℕ) (g : List ℕ → ℕ) → over (strings (suc n)) g ≡ over (strings n) (λ s. g (0 ∷ s)) + over (strings n) (λ s. g (1 ∷ s))
+pub over-strings : (n : ℕ) (g : List ℕ → ℕ) →
+    over (strings (suc n)) g ≡ over (strings n) (λ s. g (0 ∷ s)) + over (strings n) (λ s. g (1 ∷ s))
 unfolding strings
 over-strings n g =
     over-append g (map (λ s. 0 ∷ s) (strings n)) (map (λ s. 1 ∷ s) (strings n)) ∙

@@ -4,9 +4,8 @@ use mathlib.Core.Path.{_≡_, sym, _∙_}
 use native.Mathlib.Nat.{sub-zero, mul-le-mul}
 use native.Mathlib.Numerals.{add-one}
 use native.Mathlib.Omega.{arith}
-use Rattle.laws.specs.Lay.{upto}
-use Rattle.laws.specs.From.{from, upto-from}
-use Rattle.walk.specs.Walk.{Drawn, hit, miss, Place, found, at, scan, then, walk}
+use Rattle.laws.specs.Lists.{upto, from, upto-from}
+use Rattle.walk.specs.Walk.{Drawn, hit, miss, Place, at, scan, then, walk}
 use Rattle.walk.specs.Steps.{at-pass, at-hit, at-near, scan-none, scan-turn, far}
 
 module _ (bit : ℕ → ℕ → ℕ) (string : ℕ → ℕ) (m n : ℕ) where
@@ -39,24 +38,24 @@ module _ (bit : ℕ → ℕ → ℕ) (string : ℕ → ℕ) (m n : ℕ) (w : Dra
   into c d b h e l = rw (sub-zero m, e) (sym (rest-column bit string m n c d h) ∙ l)
 
   -- one row, in the code's words
-  turn : (c b i d : ℕ) (o : Place) → i < m → b ≡ bit (m - 1 - i) c → at b (m - 1 - i) d (λ x. scan (λ v. bit v c) (m - (i + 1)) x) ≡ o → Within c i d →
-      then c o (λ e. rest bit string m n (c + 1) e) ≡ w
+  turn : (c b i d : ℕ) (o : Place) → i < m → b ≡ bit (m - 1 - i) c →
+      at b (m - 1 - i) d (λ x. scan (λ v. bit v c) (m - (i + 1)) x) ≡ o → Within c i d → then c o (λ e. rest bit string m n (c + 1) e) ≡ w
   unfolding Within
   turn c b i d o h e q t = rw (← q, e, ← scan-turn (λ v. bit v c) m i d h) t
 
   pub pass : (c b i d e : ℕ) → i < m → b ≡ bit (m - 1 - i) c → b < 2 → (b ≡ 1 → ⊥) → e ≡ d → Within c i d → Within c (i + 1) e
   unfolding Within
   pass c b i d e h s l q k t =
-      rw k (turn c b i d (scan (λ v. bit v c) (m - (i + 1)) d) h s (at-pass b (m - 1 - i) d (λ x. scan (λ v. bit v c) (m - (i + 1)) x) l q) t)
+      rw k (turn c b i d _ h s (at-pass b (m - 1 - i) d (λ x. scan (λ v. bit v c) (m - (i + 1)) x) l q) t)
 
   pub near : (c b i d e : ℕ) → i < m → b ≡ bit (m - 1 - i) c → b ≡ 1 → (d ≡ 0 → ⊥) → e ≡ d - 1 → Within c i d → Within c (i + 1) e
   unfolding Within
   near c b i d e h s l q k t =
-      rw k (turn c b i d (scan (λ v. bit v c) (m - (i + 1)) (d - 1)) h s (at-near b (m - 1 - i) d (λ x. scan (λ v. bit v c) (m - (i + 1)) x) l q) t)
+      rw k (turn c b i d _ h s (at-near b (m - 1 - i) d (λ x. scan (λ v. bit v c) (m - (i + 1)) x) l q) t)
 
   pub strike : (c b i d : ℕ) → i < m → b ≡ bit (m - 1 - i) c → b ≡ 1 → d ≡ 0 → Within c i d → hit (m - 1 - i) c ≡ w
   unfolding then
-  strike c b i d h s l q t = turn c b i d (found (m - 1 - i)) h s (at-hit b (m - 1 - i) d (λ x. scan (λ v. bit v c) (m - (i + 1)) x) l q) t
+  strike c b i d h s l q t = turn c b i d _ h s (at-hit b (m - 1 - i) d (λ x. scan (λ v. bit v c) (m - (i + 1)) x) l q) t
 
   -- the next column, and the other ways out
   pub after : (c i d : ℕ) → m ≤ i → Within c i d → Left (c + 1) d

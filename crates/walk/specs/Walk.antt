@@ -3,22 +3,18 @@ use Prim.Native.Nat.{ℕ, zero, suc, _+_, _*_}
 use mathlib.Core.Bool.{Bool, true, false}
 use mathlib.Core.List.{List, [], _∷_}
 use lib.Dec.{eqb}
-use Rattle.laws.specs.Lay.{upto}
+use Rattle.laws.specs.Lists.{upto}
 use Rattle.laws.specs.Outcome.{Outcome, refused, gives, _>>_, _>>=_}
-use Rattle.files.specs.Fields.{bitOf}
+use Rattle.fields.specs.Fields.{bitOf}
 use Rattle.files.specs.Matrix.{Matrix, bit}
 use Rattle.files.specs.Files.{matrixOf}
-use Rattle.files.specs.Refusal.{numberOf}
-use Rattle.files.specs.Strings.{stringsOf}
-use Rattle.walk.specs.declared.Drawn as code
-use Rattle.walk.specs.declared.Drawn.the-variants as drew
+use Rattle.fields.specs.Refusal.{numberOf}
+use Rattle.fields.specs.Strings.{stringsOf}
 use Rattle.walk.specs.declared.Walked.{Walked}
 use Rattle.walk.specs.declared.Walked.the-variants as Walked
-
--- what a walk draws: a row, hit in a column, or nothing
-pub data Drawn : Type 0 where
-  hit : ℕ → ℕ → Drawn
-  miss : Drawn
+-- what a walk draws, the code's own type: a row, hit in a column, or nothing
+pub use Rattle.walk.specs.declared.Drawn.{Drawn}
+pub use Rattle.walk.specs.declared.Drawn.the-variants.{Hit as hit, Miss as miss}
 
 -- where the rows of one column leave the walk: at the row that it hits, or with what is left of d
 pub data Place : Type 0 where
@@ -75,11 +71,7 @@ unfoldable pub misses : Drawn → Bool
 misses (hit v c) = false
 misses miss = true
 
--- ---- the answers' cases in 01's numbers and values
-abbrev pub drawnOf : code.Drawn → Drawn
-drawnOf (drew.Hit v c) = hit v c
-drawnOf drew.Miss = miss
-
+-- ---- the answer's cases in 01's numbers and values
 abbrev pub walked : Walked → Outcome Answer
 walked (Walked.Refused why) = refused (numberOf why)
 walked (Walked.Hit v) = gives (sample v)

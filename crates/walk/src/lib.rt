@@ -1,20 +1,20 @@
 // The walk of a matrix file on one packed string of bits (01, "Matrix and walk").
 //
-// It takes any file and any string, of any length, and answers a row, a miss or one refusal. Its contract cites `walkOf` of specs/Walk.antt; what
-// holds of all strings together is in specs/Theorems.antt.
+// It takes any file and any string, of any length, and answers a row, a miss or one refusal. Its contract cites `walkOf` of
+// specs/Walk.antt; what holds of all strings together is in specs/Theorems.antt.
 ghost use mathlib.Core.Path.{_≡_};
 ghost use Prim.Native.Nat.{_*_, _≤_};
-ghost use Rattle.laws.specs.Lay.{upto};
+ghost use Rattle.laws.specs.Lists.{upto};
 ghost use Rattle.laws.specs.Outcome.{mapped};
-ghost use Rattle.files.specs.Fields.{bitOf, width};
-ghost use Rattle.walk.specs.Walk.{answerOf, drawnOf, walk, walked, walkOf};
+ghost use Rattle.fields.specs.Fields.{bitOf, width};
+ghost use Rattle.walk.specs.Walk.{answerOf, walk, walked, walkOf};
+use fields::Refusal;
+use fields::Strings;
+use fields::bit;
+use fields::check_strings;
+use fields::width;
 use files::Checked;
-use files::Refusal;
-use files::Strings;
-use files::bit;
 use files::check;
-use files::check_strings;
-use files::width;
 
 // A refusal, the row that the walk hits, or a miss.
 pub enum Walked {
@@ -23,8 +23,8 @@ pub enum Walked {
     Miss,
 }
 
-// The row that the walk hits with its column, or a miss.
-enum Drawn {
+// What a walk draws: the row that it hits, with its column, or a miss. It is the type of the definitions in specs/Walk.antt.
+pub enum Drawn {
     Hit { row: usize, column: usize },
     Miss,
 }
@@ -33,7 +33,7 @@ enum Drawn {
 // column can never hit later, so the walk ends there, and d never wraps.
 fn draw(rows: &[u8], m: usize, n: usize, string: &[u8]) -> Drawn
     requires { ⌜ (m ≤ 65535) × (n ≤ 65535) ⌝ }
-    ensures { λ r. ⌜ drawnOf r ≡ walk (λ v. bitOf (now (rows .entry)) (v * width n)) m 0 0 (upto n (bitOf (now (string .entry)) 0)) ⌝ }
+    ensures { λ r. ⌜ r ≡ walk (λ v. bitOf (now (rows .entry)) (v * width n)) m 0 0 (upto n (bitOf (now (string .entry)) 0)) ⌝ }
 {
     let w = width(n);
     let mut d: usize = 0;

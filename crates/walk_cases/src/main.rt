@@ -1,5 +1,5 @@
-// Walks that standard input lists, a line each: cases of the source documents. The matrices and what is printed were computed apart from the engine,
-// by reference/walk_cases.py.
+// Walks that standard input lists, a line each: cases of the source documents. The matrices and what is printed were computed apart
+// from the engine, by reference/walk_cases.py.
 //
 //     # TEXT   is printed as it stands
 //     m HEX    the matrix file that the lines after it are about
@@ -8,15 +8,17 @@
 //     h HEX    the highest row with a 1 in the first HEX columns: no string hits a row above it within them (`file-set`, walk/Theorems)
 ghost use Rattle.io.specs.Counts.{Counts};
 
-mod lines;
 mod rows;
 
-use libc::STDIN_FILENO;
+use case_lines::lines::LINE;
+use case_lines::lines::LINES;
+use case_lines::lines::next_line;
+use case_lines::lines::print_too_many;
+use case_lines::lines::text;
+use case_lines::parsing::least;
+use case_lines::parsing::size;
+use case_lines::parsing::take_bytes;
 use libc::STDOUT_FILENO;
-use lines::decode;
-use lines::least;
-use lines::line_end;
-use lines::wide;
 use rows::highest;
 use rows::print_total;
 use walk::Walked;
@@ -25,7 +27,7 @@ fn print_walked(answer: Walked) {
     match answer {
         Walked::Refused(why) => {
             io::write_all(STDOUT_FILENO, b" refused ");
-            io::print_decimal(STDOUT_FILENO, files::number(why) as u64);
+            io::print_decimal(STDOUT_FILENO, fields::number(why) as u64);
         }
         Walked::Hit(row) => {
             io::write_all(STDOUT_FILENO, b" ");
@@ -41,16 +43,14 @@ fn print_walked(answer: Walked) {
 // A string's line.
 fn string_line(text: &[u8], file: &[u8]) {
     let mut string = [0u8; 16];
-    let n = decode(text, &mut string);
+    let n = take_bytes(text, &mut string);
     io::write_all(STDOUT_FILENO, text);
     print_walked(walk::walk(file, &string[..n]));
 }
 
 // The line of the highest row in some columns.
 fn highest_line(text: &[u8], file: &[u8]) {
-    let mut columns = [0u8; 1];
-    decode(text, &mut columns);
-    io::print_decimal(STDOUT_FILENO, highest(file, wide(columns[0])) as u64);
+    io::print_decimal(STDOUT_FILENO, highest(file, size(text)) as u64);
     io::write_all(STDOUT_FILENO, b"\n");
 }
 
@@ -71,28 +71,36 @@ fn reading_line(kind: u8, text: &[u8], file: &[u8]) {
     }
 }
 
+// What a line is about: its first byte.
+fn kind_of(line: &[u8]) -> u8 {
+    if line.len() == 0 { 0 } else { line[0] }
+}
+
 // Carries out one line, and answers how many bytes the matrix file has from now on.
-fn carry_out(kind: u8, text: &[u8], file: &mut [u8], size: usize) -> usize
+fn carry_out(line: &[u8], file: &mut [u8], size: usize) -> usize
     requires { ⌜ Counts size (now file) ⌝ }
     ensures { λ r. ⌜ Counts r (now (file .exit)) ⌝ }
 {
+    let kind = kind_of(line);
+    let from = least(2, line.len());
+    let text = &line[from..];
     if kind == b'm' {
-        return decode(text, file);
+        return take_bytes(text, file);
     }
     reading_line(kind, text, &file[..size]);
     size
 }
 
 fn main() {
-    let mut input = [0u8; 65536];
-    let n = io::read_full(STDIN_FILENO, &mut input);
+    let mut line = [0u8; LINE];
     let mut file = [0u8; 2056];
     let mut size: usize = 0;
-    let mut at: usize = 0;
-    while at < n {
-        let end = line_end(&input[..n], at);
-        let from = least(at + 2, end);
-        size = carry_out(input[at], &input[from..end], &mut file, size);
-        at = end + 1;
+    for passed in 0..LINES {
+        let n = next_line(&mut line);
+        if n == 0 {
+            return;
+        }
+        size = carry_out(text(&line[..n]), &mut file, size);
     }
+    print_too_many();
 }

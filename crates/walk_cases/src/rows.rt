@@ -1,14 +1,18 @@
 // The rows of a matrix file, read without the engine's walk.
 ghost use Prim.Native.Nat.{_*_, _≤_, _<_};
-use crate::lines::least;
-use crate::lines::wide;
+use case_lines::parsing::least;
+use case_lines::parsing::wide;
 use libc::STDOUT_FILENO;
 
 // The byte at `at`; beyond the end it is 0.
 fn byte(file: &[u8], at: usize) -> usize
     ensures { λ r. ⌜ r < 256 ⌝ }
 {
-    if at < file.len() { wide(file[at]) } else { 0 }
+    if at < file.len() {
+        wide(file[at]) as usize
+    } else {
+        0
+    }
 }
 
 // The sum of byte j of each row of `width` bytes.
@@ -29,14 +33,14 @@ fn column_sum(file: &[u8], rows: usize, width: usize, j: usize) -> usize
 fn print_number(top: usize, bytes: &[u8]) {
     io::print_hex(STDOUT_FILENO, top as u64, 1);
     for j in 0..bytes.len() {
-        io::print_hex(STDOUT_FILENO, wide(bytes[j]) as u64, 2);
+        io::print_hex(STDOUT_FILENO, wide(bytes[j]), 2);
     }
 }
 
 // T, the sum of the rows, and a newline, for columns that fill their bytes.
 pub(crate) fn print_total(file: &[u8]) {
-    let rows = files::field(file, 4);
-    let width = files::width(files::field(file, 6));
+    let rows = fields::field(file, 4);
+    let width = fields::width(fields::field(file, 6));
     let mut sum = [0u8; 16];
     let mut carry: usize = 0;
     let used = least(width, 16);
@@ -58,7 +62,7 @@ fn print_newline() {
 // Whether the row that begins at byte `at` has a 1 in its first `columns` columns.
 fn any_one(file: &[u8], at: usize, columns: usize) -> bool {
     for c in 0..columns {
-        if files::bit(file, at, c) == 1 {
+        if fields::bit(file, at, c) == 1 {
             return true;
         }
     }
@@ -67,8 +71,8 @@ fn any_one(file: &[u8], at: usize, columns: usize) -> bool {
 
 // The highest row with a 1 in its first `columns` columns.
 pub(crate) fn highest(file: &[u8], columns: usize) -> usize {
-    let rows = files::field(file, 4);
-    let width = files::width(files::field(file, 6));
+    let rows = fields::field(file, 4);
+    let width = fields::width(fields::field(file, 6));
     let mut found: usize = 0;
     let mut at: usize = 8;
     for v in 0..rows {

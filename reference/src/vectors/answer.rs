@@ -14,10 +14,9 @@ use crate::weights::build;
 
 /// What stands right of the sign `=` for what stands left of it.
 pub fn answer(given: &str) -> Result<String, Malformed> {
+    let task = Task::of(given)?;
     let mut fields = Fields::of(given);
-    let number = fields.number()?;
-    let task =
-        Task::numbered(number).ok_or_else(|| Malformed(format!("no operation: {number:x}")))?;
+    fields.number()?;
     let outcome = carry_out(task, &mut fields)?;
     fields.end()?;
     Ok(match outcome {

@@ -55,6 +55,24 @@ impl Task {
     pub fn numbered(number: u64) -> Option<Self> {
         Task::ALL.into_iter().find(|&task| task as u64 == number)
     }
+
+    /// The operation of a line.
+    pub fn of(given: &str) -> Result<Self, Malformed> {
+        let number = Fields::of(given).number()?;
+        Task::numbered(number).ok_or_else(|| Malformed(format!("no operation: {number:x}")))
+    }
+
+    /// The crate of the engine whose program runs the operation's cases.
+    pub fn program(self) -> &'static str {
+        match self {
+            Task::Read | Task::Write | Task::Build | Task::Walk => "vectors_matrices",
+            Task::Compile | Task::Rewrite => "vectors_matrices",
+            Task::Check | Task::Start | Task::Resume => "vectors_runs",
+            Task::Stops | Task::LongCheck | Task::LongStart => "vectors_runs",
+            Task::Slice | Task::Samples | Task::SignedSamples => "vectors_lanes",
+            Task::Draw | Task::DrawSigned | Task::Draws => "vectors_lanes",
+        }
+    }
 }
 
 /// A number in an array of a line: how many digits it has, and its bytes for the hash.

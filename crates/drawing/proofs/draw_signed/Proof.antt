@@ -1,11 +1,10 @@
 -- `drawing::draw_signed` meets its contract: what is read is the front of the words that the batch left. Assumes nothing.
 use borrow.Author.Needs.{needs}
 use native.Mathlib.Omega.{arith}
-use Rattle.laws.specs.Outcome.{ends-refused}
 use Rattle.programs.specs.Limits.{most-registers, most-outputs}
 use Rattle.machine.specs.Answers.{part-long}
 use Rattle.machine.specs.Fresh.{zeroed-long}
-use Rattle.drawing.specs.Drawing.{batch-few, drawn-refused, drawn-read}
+use Rattle.drawing.specs.OwnWords.{few-of, drawn-refused, drawn-read}
 use Rattle.drawing.proofs.draw_signed.Statement.{statement}
 use Rattle.drawing.proofs.draw_signed.Tie as tie
 
@@ -31,49 +30,31 @@ enum-known-n c = search needs
 
 array-share-prefix-outputs : tie.Need-array-share-prefix-outputs
 array-share-prefix-outputs c =
-    let many = rw (c .before .n .given .1) at (c .before .before .before .before .before .run-batch .ensures .0) in
-    omega (arith, batch-few _ _ _ _ many)
+    let counted = c .before in
+    let batch = counted .before .before .before .before .run-batch in
+    omega (arith, few-of (counted .n .given .1) (batch .ensures .1))
 
 slice-aggregate-signed-samples : tie.Need-slice-aggregate-signed-samples
 slice-aggregate-signed-samples c =
-    let many = rw (c .before .before .n .given .1) at (c .before .before .before .before .before .before .run-batch .ensures .0) in
-    part-long _ (c .before .before .before .before .before .before .run-batch .last .1 .1 .1 .1 .0) (omega (arith, batch-few _ _ _ _ many))
+    let counted = c .before .before in
+    let batch = counted .before .before .before .before .run-batch in
+    part-long _ (batch .last .1 .1 .1 .1 .0) (omega (arith, few-of (counted .n .given .1) (batch .ensures .1)))
 
 signed-samples-requires : tie.Need-signed-samples-requires
 signed-samples-requires c κs = search needs
 
-enum-known-why-2 : tie.Need-enum-known-why-2
-enum-known-why-2 c = search needs
-
-enum-told : tie.Need-enum-told
-enum-told c = search needs
-
 returns : tie.Need-returns
-returns c =
-    ends-refused _ _ _ _ _
-    (drawn-refused _ _ _ _ _ (rw (c .before .why .given .1) at (c .before .before .before .before .before .run-batch .ensures .0)))
+returns c = drawn-refused _ _ _ _ _ (c .before .why .given .1) (search)
 
 same-length : tie.Need-same-length
 same-length c = search needs
 
 returns-2 : tie.Need-returns-2
 returns-2 c =
-    let read = c .before .before .before .before in
+    let read = c .before in
     let counted = read .before .before .before .before in
-    let batch = counted .before .before .before .before in
-    drawn-read _ _ _ _ _ (rw (counted .n .given .1) at (batch .run-batch .ensures .0)) _ _ (batch .run-batch .ensures .1) _ _ _
-    (rw (c .before .why2 .given .1) at (read .signed-samples .ensures .0)) (read .signed-samples .ensures .1)
-
-same-length-2 : tie.Need-same-length-2
-same-length-2 c = search needs
-
-returns-3 : tie.Need-returns-3
-returns-3 c =
-    let read = c .before .before .before in
-    let counted = read .before .before .before .before in
-    let batch = counted .before .before .before .before in
-    drawn-read _ _ _ _ _ (rw (counted .n .given .1) at (batch .run-batch .ensures .0)) _ _ (batch .run-batch .ensures .1) _ _ _
-    (rw (c .enum-told .given .1) at (read .signed-samples .ensures .0)) (read .signed-samples .ensures .1)
+    let batch = counted .before .before .before .before .run-batch in
+    drawn-read _ _ _ _ _ _ (counted .n .given .1) (batch .ensures .0) (read .signed-samples .ensures)
 
 pub draw-signed-spec : {M : Type 1} → statement M
 draw-signed-spec =
@@ -88,10 +69,6 @@ draw-signed-spec =
     array-share-prefix-outputs
     slice-aggregate-signed-samples
     signed-samples-requires
-    enum-known-why-2
-    enum-told
     returns
     same-length
-    returns-2
-    same-length-2
-    returns-3)
+    returns-2)

@@ -1,6 +1,6 @@
 -- `drawing::first_refusal` meets its contract: the check refuses, or it does not. Assumes nothing.
 use borrow.Author.Needs.{needs}
-use Rattle.drawing.specs.Drawing.{after-own, after-none}
+use Rattle.drawing.specs.OwnWords.{after-own, after-none}
 use Rattle.drawing.proofs.first_refusal.Statement.{statement}
 use Rattle.drawing.proofs.first_refusal.Tie as tie
 

@@ -4,7 +4,7 @@ use borrow.Author.Needs.{needs}
 use lib.ListN.{replicate}
 use Rattle.laws.specs.Outcome.{ends-refused}
 use Rattle.programs.specs.Limits.{most-inputs}
-use Rattle.drawing.specs.Drawing.{batch-headless, batch-strings, batch-short, batch-refused, batch-done}
+use Rattle.drawing.specs.OwnWords.{batch-headless, batch-strings, batch-short, batch-ends, batch-few}
 use Rattle.drawing.proofs.run_batch.Statement.{statement}
 use Rattle.drawing.proofs.run_batch.Tie as tie
 
@@ -16,7 +16,8 @@ enum-known-why c = search needs
 
 returns : tie.Need-returns
 returns c =
-    ends-refused _ _ _ _ _ (batch-headless _ _ _ _ (rw (c .before .why .given .1) at (c .before .before .before .read-header .ensures)))
+    let head = rw (c .before .why .given .1) at (c .before .before .before .read-header .ensures) in
+    (ends-refused _ _ _ _ _ (batch-headless _ _ _ _ head), tt)
 
 enum-known-p : tie.Need-enum-known-p
 enum-known-p c = search needs
@@ -38,7 +39,7 @@ returns-2 c =
     let asked = c .before .before .before .before .before .before .before .before in
     let head = rw (asked .p .given .1) at (asked .before .before .read-header .ensures) in
     let cut = rw (c .before .before .why2 .given .1) at (c .before .before .before .before .before .slice .ensures .0) in
-    ends-refused _ _ _ _ _ (batch-strings _ _ _ _ head (replicate most-inputs 0) (search needs) _ _ cut (c .first-refusal .ensures))
+    (ends-refused _ _ _ _ _ (batch-strings _ _ _ _ head (replicate most-inputs 0) (search needs) _ _ cut (c .first-refusal .ensures)), tt)
 
 enum-told : tie.Need-enum-told
 enum-told c = search needs
@@ -51,8 +52,9 @@ returns-3 c =
     let asked = c .before .before .before .before .before .before .before .before in
     let head = rw (asked .p .given .1) at (asked .before .before .read-header .ensures) in
     let cut = rw (c .before .before .enum-told .given .1) at (c .before .before .before .before .before .slice .ensures .0) in
-    ends-refused _ _ _ _ _
-    (batch-short _ _ _ _ head (replicate most-inputs 0) (search needs) _ _ cut (c .before .if1 .taken) (c .first-refusal2 .ensures))
+    let short = c .before .if1 .taken in
+    let late = batch-short _ _ _ _ head (replicate most-inputs 0) (search needs) _ _ cut short (c .first-refusal2 .ensures) in
+    (ends-refused _ _ _ _ _ late, tt)
 
 slice-aggregate-start : tie.Need-slice-aggregate-start
 slice-aggregate-start c = search needs
@@ -81,8 +83,11 @@ returns-4 c =
     let head = rw (asked .p .given .1) at (asked .before .before .read-header .ensures) in
     let many = rw (cut .enum-told .given .1) at (cutting .slice .ensures .0) in
     let room = asked .before .before .before .before .before .before .before .pre in
-    batch-refused _ _ _ _ head (replicate most-inputs 0) (search needs) (run .before .before .before .before .if1 .left) _ _ (room .0) (room .1) _
-    many _ (cutting .slice .ensures .1) _ (run .start .ensures .1 .1) _ (rw (c .before .why3 .given .1) at (run .start .ensures .0))
+    let enough = run .before .before .before .before .if1 .left in (
+      batch-ends _ _ _ _ head (replicate most-inputs 0) (search needs) enough _ _ (room .0) (room .1) _ many _ (cutting .slice .ensures .1)
+          _ _ (rw (c .before .why3 .given .1) at (run .start .ensures .0)) (search),
+      tt,
+    )
 
 same-length-3 : tie.Need-same-length-3
 same-length-3 c = search needs
@@ -99,8 +104,11 @@ returns-5 c =
     let head = rw (asked .p .given .1) at (asked .before .before .read-header .ensures) in
     let many = rw (cut .enum-told .given .1) at (cutting .slice .ensures .0) in
     let room = asked .before .before .before .before .before .before .before .pre in
-    batch-done _ _ _ _ head (replicate most-inputs 0) (search needs) (run .before .before .before .before .if1 .left) _ _ (room .0) (room .1) _
-    many _ (cutting .slice .ensures .1) _ (run .start .ensures .1 .1) _ (rw (c .enum-told2 .given .1) at (run .start .ensures .0))
+    let enough = run .before .before .before .before .if1 .left in (
+      batch-ends _ _ _ _ head (replicate most-inputs 0) (search needs) enough _ _ (room .0) (room .1) _ many _ (cutting .slice .ensures .1)
+          _ _ (rw (c .enum-told2 .given .1) at (run .start .ensures .0)) (search),
+      batch-few _ _ head,
+    )
 
 pub run-batch-spec : {M : Type 1} → statement M
 run-batch-spec =

@@ -1,26 +1,34 @@
 -- `walk::draw` meets its contract: before each column and each row, what is left of the walk is what the whole draws. Assumes nothing.
 use borrow.Author.Needs.{needs}
 use mathlib.Core.Logic.{⊎-elim}
-use mathlib.Core.Path.{_≡_, ap, _∙_}
-use Prim.Native.Nat.{_+_, _-_, _*_, _≤_, _<_}
-use Rattle.laws.specs.Lay.{upto}
-use Rattle.files.specs.Fields.{bitOf, width}
-use Rattle.walk.specs.declared.Drawn.the-variants as Drawn
+use mathlib.Core.Path.{_≡_, _∙_}
+use mathlib.Core.List.{List}
+use Prim.Native.Nat.{ℕ, _+_, _-_, _*_, _≤_, _<_}
+use Rattle.laws.specs.Lists.{upto}
+use Rattle.fields.specs.Fields.{bitOf, width}
 use Rattle.walk.specs.Walk as W
+use Rattle.walk.specs.Ways.{packedRows}
 use Rattle.walk.specs.Turns.{Left, Within, start, into, pass, strike, near, after, lost, over, place-fits}
 use Rattle.walk.proofs.draw.Statement.{statement}
 use Rattle.walk.proofs.draw.Tie as tie
 
+-- what is left of the walk of the packed rows on the packed string is what the whole draws: before column c, and in it after i rows
+abbrev Here : List ℕ → ℕ → ℕ → List ℕ → ℕ → ℕ → Type 0
+Here rows m n string = Left (packedRows rows n) (bitOf string 0) m n (W.walk (packedRows rows n) m 0 0 (upto n (bitOf string 0)))
+
+abbrev Inner : List ℕ → ℕ → ℕ → List ℕ → ℕ → ℕ → ℕ → Type 0
+Inner rows m n string = Within (packedRows rows n) (bitOf string 0) m n (W.walk (packedRows rows n) m 0 0 (upto n (bitOf string 0)))
+
 abbrev Inv-loop : tie.InvT-loop
 Inv-loop rows m n string w d₀ drawn₀ c i₀ d drawn i =
-    (drawn ≡ Drawn.Miss) × (w ≡ width n) × (i ≤ m) × (d ≤ 2 * m + 1) × (c < n) × Within (λ v. bitOf rows (v * width n)) (bitOf string 0) m n (W.walk (λ v. bitOf rows (v * width n)) m 0 0 (upto n (bitOf string 0))) c i d
+    (drawn ≡ W.miss) × (w ≡ width n) × (i ≤ m) × (d ≤ 2 * m + 1) × (c < n) × Inner rows m n string c i d
 
 abbrev μ-loop : tie.MeasureT-loop
 μ-loop rows m n string w d₀ drawn₀ c i₀ d drawn i = m - i
 
 abbrev Inv-walk : tie.InvT-walk
 Inv-walk rows m n string w d₀ drawn₀ c₀ d drawn c =
-    (drawn ≡ Drawn.Miss) × (w ≡ width n) × (c ≤ n) × (d ≤ m) × Left (λ v. bitOf rows (v * width n)) (bitOf string 0) m n (W.walk (λ v. bitOf rows (v * width n)) m 0 0 (upto n (bitOf string 0))) c d
+    (drawn ≡ W.miss) × (w ≡ width n) × (c ≤ n) × (d ≤ m) × Here rows m n string c d
 
 abbrev μ-walk : tie.MeasureT-walk
 μ-walk rows m n string w d₀ drawn₀ c₀ d drawn c = n - c
@@ -44,7 +52,14 @@ add-d : tie.Need-add-d Inv-loop μ-loop Inv-walk μ-walk
 add-d c = search needs
 
 loop-holds : tie.Need-loop-holds Inv-loop μ-loop Inv-walk μ-walk
-loop-holds c = (search needs, search needs, search needs, search needs, search needs, into _ _ _ _ _ _ _ _ (search needs) (c .bit .ensures .0) (c .before .before .walk .inv .4))
+loop-holds c = (
+  search needs,
+  search needs,
+  search needs,
+  search needs,
+  search needs,
+  into _ _ _ _ _ _ _ _ (search needs) (c .bit .ensures .0) (c .before .before .walk .inv .4),
+)
 
 sub-v : tie.Need-sub-v Inv-loop μ-loop Inv-walk μ-walk
 sub-v c = search needs
@@ -69,9 +84,27 @@ loop-less c = search needs
 
 loop-again : tie.Need-loop-again Inv-loop μ-loop Inv-walk μ-walk
 loop-again c =
+    let row = c .before in
+    let turn = row .before in
+    let at = turn .before .loop in
+    let bit = rw (at .inv .1) at (row .bit2 .ensures .0) in
     ⊎-elim
-    (λ u. (search needs, search needs, search needs, search needs, search needs, near _ _ _ _ _ _ _ _ _ _ (c .before .before .loop-test .taken) (rw (c .before .before .before .loop .inv .1) at (c .before .bit2 .ensures .0)) (u .0 .taken) (u .1 .left) (u .2) (c .before .before .before .loop .inv .5)))
-    (λ u. (search needs, search needs, search needs, search needs, search needs, pass _ _ _ _ _ _ _ _ _ _ (c .before .before .loop-test .taken) (rw (c .before .before .before .loop .inv .1) at (c .before .bit2 .ensures .0)) (c .before .bit2 .ensures .1) (u .0 .left) (u .1) (c .before .before .before .loop .inv .5)))
+    (λ u. (
+      search needs,
+      search needs,
+      search needs,
+      search needs,
+      search needs,
+      near _ _ _ _ _ _ _ _ _ _ (turn .loop-test .taken) bit (u .0 .taken) (u .1 .left) (u .2) (at .inv .5),
+    ))
+    (λ u. (
+      search needs,
+      search needs,
+      search needs,
+      search needs,
+      search needs,
+      pass _ _ _ _ _ _ _ _ _ _ (turn .loop-test .taken) bit (row .bit2 .ensures .1) (u .0 .left) (u .1) (at .inv .5),
+    ))
     (c .if1 .came)
 
 add-c : tie.Need-add-c Inv-loop μ-loop Inv-walk μ-walk
@@ -81,16 +114,31 @@ walk-less : tie.Need-walk-less Inv-loop μ-loop Inv-walk μ-walk
 walk-less c = search needs
 
 walk-again : tie.Need-walk-again Inv-loop μ-loop Inv-walk μ-walk
-walk-again c = (search needs, search needs, search needs, search needs, after _ _ _ _ _ _ _ _ (c .before .loop-test .left) (c .before .before .loop .inv .5))
+walk-again c = (
+  search needs,
+  search needs,
+  search needs,
+  search needs,
+  after _ _ _ _ _ _ _ _ (c .before .loop-test .left) (c .before .before .loop .inv .5),
+)
 
 returns : tie.Need-returns Inv-loop μ-loop Inv-walk μ-walk
-returns c = ap W.drawnOf (c .before .walk .inv .0) ∙ over _ _ _ _ _ _ _ (search needs) (c .before .walk .inv .4)
+returns c =
+    let at = c .before .walk in
+    at .inv .0 ∙ over _ _ _ _ _ _ _ (search needs) (at .inv .4)
 
 returns-2 : tie.Need-returns-2 Inv-loop μ-loop Inv-walk μ-walk
-returns-2 c = strike _ _ _ _ _ _ _ _ _ (c .before .before .before .loop-test .taken) (rw (c .before .before .before .before .loop .inv .1) at (c .before .before .bit2 .ensures .0)) (c .before .if1 .taken) (c .if2 .taken) (c .before .before .before .before .loop .inv .5)
+returns-2 c =
+    let row = c .before .before in
+    let turn = row .before in
+    let at = turn .before .loop in
+    strike _ _ _ _ _ _ _ _ _ (turn .loop-test .taken) (rw (at .inv .1) at (row .bit2 .ensures .0)) (c .before .if1 .taken) (c .if2 .taken)
+    (at .inv .5)
 
 returns-3 : tie.Need-returns-3 Inv-loop μ-loop Inv-walk μ-walk
-returns-3 c = ap W.drawnOf (c .before .before .loop .inv .0) ∙ lost _ _ _ _ _ _ _ _ (c .before .loop-test .left) (c .if3 .taken) (c .before .before .loop .inv .5)
+returns-3 c =
+    let at = c .before .before .loop in
+    at .inv .0 ∙ lost _ _ _ _ _ _ _ _ (c .before .loop-test .left) (c .if3 .taken) (at .inv .5)
 
 pub draw-spec : {M : Type 1} → statement M
 draw-spec =

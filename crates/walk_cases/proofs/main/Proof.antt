@@ -8,46 +8,31 @@ use Rattle.walk_cases.proofs.main.Statement.{statement}
 use Rattle.walk_cases.proofs.main.Tie as tie
 
 abbrev Inv-loop : tie.InvT-loop
-Inv-loop input n file₀ size₀ at₀ file size at = (length input ≡ 65536) × (length file ≡ 2056) × (n ≤ 65536) × Counts size file
+Inv-loop line₀ file₀ size₀ passed₀ line file size passed = (passed ≤ 4096) × (length line ≡ 8192) × (length file ≡ 2056) × Counts size file
 
 abbrev μ-loop : tie.MeasureT-loop
-μ-loop input n file₀ size₀ at₀ file size at = n - at
-
-slice-aggregate-read-full : tie.Need-slice-aggregate-read-full Inv-loop μ-loop
-slice-aggregate-read-full c = search needs
-
-read-full-requires : tie.Need-read-full-requires Inv-loop μ-loop
-read-full-requires c κs = search needs
+μ-loop line₀ file₀ size₀ passed₀ line file size passed = 4096 - passed
 
 loop-holds : tie.Need-loop-holds Inv-loop μ-loop
 loop-holds c = search needs
 
-array-share-prefix-input : tie.Need-array-share-prefix-input Inv-loop μ-loop
-array-share-prefix-input c = search needs
+slice-aggregate-next-line : tie.Need-slice-aggregate-next-line Inv-loop μ-loop
+slice-aggregate-next-line c = search needs
 
-slice-aggregate-line-end : tie.Need-slice-aggregate-line-end Inv-loop μ-loop
-slice-aggregate-line-end c = search needs
+next-line-requires : tie.Need-next-line-requires Inv-loop μ-loop
+next-line-requires c κs = search needs
 
-line-end-requires : tie.Need-line-end-requires Inv-loop μ-loop
-line-end-requires c κs = search needs
+returns : tie.Need-returns Inv-loop μ-loop
+returns c = search needs
 
-add-least : tie.Need-add-least Inv-loop μ-loop
-add-least c = search needs
+array-share-prefix-line : tie.Need-array-share-prefix-line Inv-loop μ-loop
+array-share-prefix-line c = search needs
 
-least-requires : tie.Need-least-requires Inv-loop μ-loop
-least-requires c κs = search needs
+slice-aggregate-text : tie.Need-slice-aggregate-text Inv-loop μ-loop
+slice-aggregate-text c = search needs
 
-array-read-carry-out : tie.Need-array-read-carry-out Inv-loop μ-loop
-array-read-carry-out c = search needs
-
-sub-carry-out : tie.Need-sub-carry-out Inv-loop μ-loop
-sub-carry-out c = search needs
-
-part-carry-out-start : tie.Need-part-carry-out-start Inv-loop μ-loop
-part-carry-out-start c = search needs
-
-part-carry-out-end : tie.Need-part-carry-out-end Inv-loop μ-loop
-part-carry-out-end c = search needs
+text-requires : tie.Need-text-requires Inv-loop μ-loop
+text-requires c κs = search needs
 
 slice-aggregate-carry-out : tie.Need-slice-aggregate-carry-out Inv-loop μ-loop
 slice-aggregate-carry-out c = search needs
@@ -55,8 +40,8 @@ slice-aggregate-carry-out c = search needs
 carry-out-requires : tie.Need-carry-out-requires Inv-loop μ-loop
 carry-out-requires c κs = search needs
 
-add-at : tie.Need-add-at Inv-loop μ-loop
-add-at c = search needs
+add-passed : tie.Need-add-passed Inv-loop μ-loop
+add-passed c = search needs
 
 loop-less : tie.Need-loop-less Inv-loop μ-loop
 loop-less c = search needs
@@ -64,8 +49,11 @@ loop-less c = search needs
 loop-again : tie.Need-loop-again Inv-loop μ-loop
 loop-again c = search needs
 
-returns : tie.Need-returns Inv-loop μ-loop
-returns c = search needs
+print-too-many-requires : tie.Need-print-too-many-requires Inv-loop μ-loop
+print-too-many-requires c κs = search needs
+
+returns-2 : tie.Need-returns-2 Inv-loop μ-loop
+returns-2 c = search needs
 
 pub main-spec : {M : Type 1} → statement M
 main-spec =
@@ -73,21 +61,17 @@ main-spec =
     (tie.spec
     Inv-loop
     μ-loop
-    slice-aggregate-read-full
-    read-full-requires
     loop-holds
-    array-share-prefix-input
-    slice-aggregate-line-end
-    line-end-requires
-    add-least
-    least-requires
-    array-read-carry-out
-    sub-carry-out
-    part-carry-out-start
-    part-carry-out-end
+    slice-aggregate-next-line
+    next-line-requires
+    returns
+    array-share-prefix-line
+    slice-aggregate-text
+    text-requires
     slice-aggregate-carry-out
     carry-out-requires
-    add-at
+    add-passed
     loop-less
     loop-again
-    returns)
+    print-too-many-requires
+    returns-2)

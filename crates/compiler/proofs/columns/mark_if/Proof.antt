@@ -1,20 +1,19 @@
 -- `compiler::mark_if` meets its contract, by the bit. Assumes nothing.
 use borrow.Author.Needs.{needs}
-use Rattle.compiler.specs.EmittingColumns.{if-not-met, met-emitted, met-room}
+use Rattle.compiler.specs.Emitting.{if-none, if-space, if-emitted}
 use Rattle.compiler.proofs.columns.mark_if.Statement.{statement}
 use Rattle.compiler.proofs.columns.mark_if.Tie as tie
 
 returns : tie.Need-returns
-returns c = if-not-met _ _ _ _ (c .if1 .taken) (c .before .before .pre .0)
+returns c = if-none _ _ (c .if1 .taken) (c .before .before .pre .0)
 
 mark-requires : tie.Need-mark-requires
-mark-requires c κs = (met-room _ _ _ _ (c .before .if1 .left) (c .before .before .before .pre .0), search needs, search needs)
-
-same-length : tie.Need-same-length
-same-length c = search needs
+mark-requires c κs = (if-space _ _ (c .before .if1 .left) (c .before .before .before .pre .0), search needs, search needs)
 
 returns-2 : tie.Need-returns-2
-returns-2 c = met-emitted _ (c .before .before .before .before .if1 .left) (c .before .before .mark .ensures)
+returns-2 c =
+    let called = c .before .before in
+    if-emitted _ _ (called .before .before .if1 .left) (called .mark .ensures)
 
 pub mark-if-spec : {M : Type 1} → statement M
-mark-if-spec = tie.close (tie.spec returns mark-requires same-length returns-2)
+mark-if-spec = tie.close (tie.spec returns mark-requires (λ c. search needs) returns-2)

@@ -2,13 +2,13 @@
 use borrow.Author.Needs.{needs}
 use native.Mathlib.Omega.{arith}
 use Prim.Native.Nat.{_-_, _≤_}
-use Rattle.files.specs.Fields.{bit-le}
-use Rattle.compiler.specs.EmittingColumns.{packedRows, row-fits, Marked, marked-none, marked-more, marked-counted, mark-few, ones-few}
+use Rattle.compiler.specs.EmittingColumns.{packedRows, row-fits, Marked, marked-none, marked-more, marked-done, mark-few, ones-few}
 use Rattle.compiler.proofs.sizes.count_marks.Statement.{statement}
 use Rattle.compiler.proofs.sizes.count_marks.Tie as tie
 
 abbrev Inv-loop : tie.InvT-loop
-Inv-loop bytes stride m c rows₀ instructions₀ v₀ rows instructions v = (v ≤ m) × Marked (λ v. packedRows bytes stride v c) v rows instructions
+Inv-loop bytes stride m c rows₀ instructions₀ v₀ rows instructions v =
+    (v ≤ m) × Marked (λ v. packedRows bytes stride v c) v rows instructions
 
 abbrev μ-loop : tie.MeasureT-loop
 μ-loop bytes stride m c rows₀ instructions₀ v₀ rows instructions v = m - v
@@ -19,15 +19,6 @@ loop-holds c = (search needs, marked-none _)
 mul-bit : tie.Need-mul-bit Inv-loop μ-loop
 mul-bit c = record { fits = row-fits _ _ (search needs) (search needs) }
 
-bit-requires : tie.Need-bit-requires Inv-loop μ-loop
-bit-requires c κs = search needs
-
-cast-b : tie.Need-cast-b Inv-loop μ-loop
-cast-b c = search needs
-
-add-rows : tie.Need-add-rows Inv-loop μ-loop
-add-rows c = search needs
-
 cast-instructions : tie.Need-cast-instructions Inv-loop μ-loop
 cast-instructions c = record { fits = omega (arith, ones-few (c .before .before .loop .v) (omega arith)) }
 
@@ -35,39 +26,24 @@ add-instructions : tie.Need-add-instructions Inv-loop μ-loop
 add-instructions c = record { fits = omega (arith, ones-few (c .before .before .loop .v) (omega arith)) }
 
 mul-instructions : tie.Need-mul-instructions Inv-loop μ-loop
-mul-instructions c = record { fits = omega (arith, mark-few (c .before .before .loop .v) (c .bit .result) (omega arith) (c .bit .ensures .1)) }
+mul-instructions c =
+    record { fits = omega (arith, mark-few (c .before .before .loop .v) (c .bit .result) (omega arith) (c .bit .ensures .1)) }
 
 add-instructions-2 : tie.Need-add-instructions-2 Inv-loop μ-loop
-add-instructions-2 c = record { fits = omega (arith, mark-few (c .before .before .loop .v) (c .bit .result) (omega arith) (c .bit .ensures .1)) }
-
-add-v : tie.Need-add-v Inv-loop μ-loop
-add-v c = search needs
-
-loop-less : tie.Need-loop-less Inv-loop μ-loop
-loop-less c = search needs
+add-instructions-2 c =
+    record { fits = omega (arith, mark-few (c .before .before .loop .v) (c .bit .result) (omega arith) (c .bit .ensures .1)) }
 
 loop-again : tie.Need-loop-again Inv-loop μ-loop
-loop-again c = (search needs, marked-more _ _ _ _ _ (c .bit .ensures .0) (c .bit .ensures .1) (omega arith) (c .before .before .loop .inv .1))
+loop-again c = (search needs, marked-more (c .bit .ensures .0) (c .bit .ensures .1) (omega arith) (c .before .before .loop .inv .1))
 
 returns : tie.Need-returns Inv-loop μ-loop
-returns c = marked-counted _ _ _ _ _ _ (λ v l. bit-le _ _ _ _) (c .before .loop .inv .0) (c .loop-test .left) (c .before .loop .inv .1)
+returns c =
+    let inv = c .before .loop .inv in
+    marked-done (inv .0) (c .loop-test .left) (inv .1)
 
 pub count-marks-spec : {M : Type 1} → statement M
 count-marks-spec =
     tie.close
-    (tie.spec
-    Inv-loop
-    μ-loop
-    loop-holds
-    mul-bit
-    bit-requires
-    cast-b
-    add-rows
-    cast-instructions
-    add-instructions
-    mul-instructions
-    add-instructions-2
-    add-v
-    loop-less
-    loop-again
-    returns)
+    (tie.spec Inv-loop μ-loop loop-holds mul-bit (λ c κs. search needs) (λ c. search needs) (λ c. search needs)
+    cast-instructions add-instructions mul-instructions add-instructions-2 (λ c. search needs) (λ c. search needs)
+    loop-again returns)

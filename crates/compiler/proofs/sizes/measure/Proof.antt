@@ -1,37 +1,25 @@
 -- `compiler::measure` meets its contract. Assumes nothing.
 use borrow.Author.Needs.{needs}
-use Rattle.compiler.specs.EmittingProgram.{few-instructions, columns-short, measured}
+use Rattle.compiler.specs.EmittingProgram.{countable, measured}
 use Rattle.compiler.proofs.sizes.measure.Statement.{statement}
 use Rattle.compiler.proofs.sizes.measure.Tie as tie
-
-row-bits-requires : tie.Need-row-bits-requires
-row-bits-requires c κs = search needs
-
-width-requires : tie.Need-width-requires
-width-requires c κs = search needs
 
 count-columns-requires : tie.Need-count-columns-requires
 count-columns-requires c κs = (search needs, search needs, search needs, rw (c .width .ensures) (c .before .before .before .pre .roomy))
 
 program-length-requires : tie.Need-program-length-requires
 program-length-requires c κs =
-    let p = c .before .before .before .before .pre in
-    let k = c .before .before .row-bits .ensures in
+    let k = c .before .before in
     let count = rw (c .before .width .ensures) at (c .count-columns .ensures) in
-    (few-instructions _ _ _ _ _ p k count, columns-short _ _ _ _ _ p k count)
+    countable (record { bits = k .row-bits .ensures; columns = count }) (k .before .before .pre)
 
 returns : tie.Need-returns
 returns c =
-    let p = c .before .before .before .before .before .pre in
-    let count = rw (c .before .before .width .ensures) at (c .before .count-columns .ensures) in
-    measured _ _ _ _ _ p (c .before .before .before .row-bits .ensures) count _ (c .program-length .ensures)
+    let columns = c .before in
+    let count = rw (columns .before .width .ensures) at (columns .count-columns .ensures) in
+    measured (record { bits = columns .before .before .row-bits .ensures; columns = count }) (c .program-length .ensures)
 
 pub measure-spec : {M : Type 1} → statement M
 measure-spec =
     tie.close
-    (tie.spec
-    row-bits-requires
-    width-requires
-    count-columns-requires
-    program-length-requires
-    returns)
+    (tie.spec (λ c κs. search needs) (λ c κs. search needs) count-columns-requires program-length-requires returns)

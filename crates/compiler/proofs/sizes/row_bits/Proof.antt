@@ -2,21 +2,15 @@
 use borrow.Author.Needs.{needs}
 use native.Mathlib.Omega.{arith}
 use lib.Count.{leading-le}
-use Rattle.compiler.specs.EmittingWidth.{counted-width}
+use Rattle.compiler.specs.Width.{counted-width}
 use Rattle.compiler.proofs.sizes.row_bits.Statement.{statement}
 use Rattle.compiler.proofs.sizes.row_bits.Tie as tie
 
-sub-result : tie.Need-sub-result
-sub-result c = search needs
-
 sub-result-2 : tie.Need-sub-result-2
 sub-result-2 c = leading-le 64 _
-
-cast-result : tie.Need-cast-result
-cast-result c = search needs
 
 returns : tie.Need-returns
 returns c = counted-width 64 (c .args .m) (c .pre) (omega (arith, c .fits .m))
 
 pub row-bits-spec : {M : Type 1} → statement M
-row-bits-spec = tie.close (tie.spec sub-result sub-result-2 cast-result returns)
+row-bits-spec = tie.close (tie.spec (λ c. search needs) sub-result-2 (λ c. search needs) returns)

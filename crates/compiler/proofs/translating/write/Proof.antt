@@ -6,57 +6,53 @@ use Rattle.compiler.proofs.translating.write.Statement.{statement}
 use Rattle.compiler.proofs.translating.write.Tie as tie
 
 describe-requires : tie.Need-describe-requires
-describe-requires c κs = planned _ _ _ _ _ _ _ (c .before .before .pre .0 .0) (c .before .before .pre .0 .1) (c .before .before .pre .1) .header
-
-write-header-requires : tie.Need-write-header-requires
-write-header-requires c κs = search needs
+describe-requires c κs =
+    let asked = c .before .before .pre in
+    planned (asked .0) (asked .1) (asked .2) .header
 
 begin-requires : tie.Need-begin-requires
 begin-requires c κs =
-    let l = planned _ _ _ _ _ _ _ (c .before .before .before .before .before .before .before .before .pre .0 .0) (c .before .before .before .before .before .before .before .before .pre .0 .1) (c .before .before .before .before .before .before .before .before .pre .1) in
-    (omega (arith, l .parts), l .fit .outputs)
-
-width-requires : tie.Need-width-requires
-width-requires c κs = search needs
+    let head = c .before .before .before in
+    let asked = head .before .before .before .before .before .pre in
+    let plan = planned (asked .0) (asked .1) (asked .2) in
+    (record { fits = omega (arith, plan .parts) }, plan .fit .outputs)
 
 columns-requires : tie.Need-columns-requires
 columns-requires c κs =
     let begun = c .before .before .before .before in
-    let s = begun .before .before .before .before .before .before .before .before .before .pre in
-    let l = planned _ _ _ _ _ _ _ (s .0 .0) (s .0 .1) (s .1) in
-    rw (c .before .width .ensures)
-    ((omega (arith, l .parts), record { fit = l .fit; few-rows = search needs; few-bytes = search needs }), (search needs, search needs))
+    let head = begun .before .before .before .before in
+    let asked = head .before .before .before .before .before .pre in
+    let plan = planned (asked .0) (asked .1) (asked .2) in
+    rw (c .before .width .ensures) (
+      record { fits = omega (arith, plan .parts) },
+      record { fit = plan .fit; few-rows = search needs; few-bytes = search needs },
+      search needs,
+      search needs,
+    )
 
 end-requires : tie.Need-end-requires
 end-requires c κs =
     let laid = c .before .before .before in
-    let s = laid .before .before .before .before .before .before .before .before .before .before .before .before .before .before .pre in
-    let l = planned _ _ _ _ _ _ _ (s .0 .0) (s .0 .1) (s .1) in
-    let e = rw (laid .before .before .width .ensures) at (laid .columns .ensures) in
-    (omega (arith, l .parts, e .behind), l .fit .outputs)
-
-same-length : tie.Need-same-length
-same-length c = search needs
+    let begun = laid .before .before .before .before .before in
+    let head = begun .before .before .before .before in
+    let asked = head .before .before .before .before .before .pre in
+    let plan = planned (asked .0) (asked .1) (asked .2) in
+    let written = rw (laid .before .before .width .ensures) at (laid .columns .ensures) in
+    (record { fits = omega (arith, plan .parts, written .behind) }, plan .fit .outputs)
 
 returns : tie.Need-returns
 returns c =
-    let laid = c .before .before .before .before .before .before in
+    let ended = c .before .before in
+    let laid = ended .before .before .before .before in
     let begun = laid .before .before .before .before .before in
-    let told = begun .before .before .before .before in
-    let s = told .before .before .before .before .before .pre in
-    program-written _ _ _ _ _ _ _ _ (s .0 .1) (planned _ _ _ _ _ _ _ (s .0 .0) (s .0 .1) (s .1)) (told .before .before .describe .ensures)
-    (told .write-header .ensures .1) (begun .begin .ensures) (rw (laid .before .before .width .ensures) at (laid .columns .ensures))
-    (c .before .before .end .ensures)
+    let head = begun .before .before .before .before in
+    let asked = head .before .before .before .before .before .pre in
+    program-written _ (asked .1) (planned (asked .0) (asked .1) (asked .2)) (head .before .before .describe .ensures)
+    (head .write-header .ensures .1) (begun .begin .ensures) (rw (laid .before .before .width .ensures) at (laid .columns .ensures))
+    (ended .end .ensures)
 
 pub write-spec : {M : Type 1} → statement M
 write-spec =
     tie.close
-    (tie.spec
-    describe-requires
-    write-header-requires
-    begin-requires
-    width-requires
-    columns-requires
-    end-requires
-    same-length
-    returns)
+    (tie.spec describe-requires (λ c κs. search needs) begin-requires (λ c κs. search needs) columns-requires
+    end-requires (λ c. search needs) returns)

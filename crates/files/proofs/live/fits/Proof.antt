@@ -4,8 +4,8 @@ use native.Mathlib.Omega.{arith}
 use mathlib.Core.Path.{_∙_}
 use Prim.Native.Nat.{_-_, _*_, _≤_}
 use native.Mathlib.Nat.{mod-lt}
-use Rattle.files.specs.Fields.{packedBit, bit-le}
-use Rattle.files.specs.Live.{Open, live, live-is, open-first, open-full, open-next, open-done, strided-weight}
+use Rattle.fields.specs.Fields.{packedBit, bit-le}
+use Rattle.files.specs.Live.{Open, live, live-is, open-first, open-full, open-next, open-done, strided-ones}
 use Rattle.files.proofs.live.fits.Statement.{statement}
 use Rattle.files.proofs.live.fits.Tie as tie
 
@@ -39,16 +39,19 @@ mul-if1 c = search needs
 
 returns : tie.Need-returns Inv-loop μ-loop
 returns c =
-    open-full _ _ _ _ _ _ _ (c .before .before .loop-test .taken) (c .before .ones .ensures ∙ strided-weight _ _ _ _ _) (c .if1 .taken) (c .before .before .before .loop .inv .2) ∙ live-is _ _ _ (λ v i l k. bit-le _ _ _ _)
+    let turn = c .before .before in
+    open-full _ _ _ _ _ _ _ (turn .loop-test .taken) (c .before .ones .ensures ∙ strided-ones _ _ _ _ _) (c .if1 .taken)
+    (turn .before .loop .inv .2) ∙
+    live-is _ _ _ (λ v i l k. bit-le _ _ _ _)
 
-mul-least : tie.Need-mul-least Inv-loop μ-loop
-mul-least c = search needs
+mul-lesser : tie.Need-mul-lesser Inv-loop μ-loop
+mul-lesser c = search needs
 
-sub-least : tie.Need-sub-least Inv-loop μ-loop
-sub-least c = search needs
+sub-lesser : tie.Need-sub-lesser Inv-loop μ-loop
+sub-lesser c = search needs
 
-least-requires : tie.Need-least-requires Inv-loop μ-loop
-least-requires c κs = search needs
+lesser-requires : tie.Need-lesser-requires Inv-loop μ-loop
+lesser-requires c κs = search needs
 
 add-c : tie.Need-add-c Inv-loop μ-loop
 add-c c = search needs
@@ -57,11 +60,15 @@ loop-less : tie.Need-loop-less Inv-loop μ-loop
 loop-less c = search needs
 
 loop-again : tie.Need-loop-again Inv-loop μ-loop
-loop-again c = (
-  search needs,
-  search needs,
-  rw (c .least .ensures) (open-next _ _ _ _ _ _ _ (c .before .before .before .loop-test .taken) (c .before .before .ones .ensures ∙ strided-weight _ _ _ _ _) (c .before .if1 .left) (c .before .before .before .before .loop .inv .2)),
-)
+loop-again c =
+    let tried = c .before in
+    let turn = tried .before .before in (
+      search needs,
+      search needs,
+      rw (c .lesser .ensures)
+          (open-next _ _ _ _ _ _ _ (turn .loop-test .taken) (tried .before .ones .ensures ∙ strided-ones _ _ _ _ _) (tried .if1 .left)
+          (turn .before .loop .inv .2)),
+    )
 
 returns-2 : tie.Need-returns-2 Inv-loop μ-loop
 returns-2 c = open-done _ _ _ _ _ _ (c .loop-test .left) (c .before .loop .inv .2) ∙ live-is _ _ _ (λ v i l k. bit-le _ _ _ _)
@@ -80,9 +87,9 @@ fits-spec =
     ones-requires
     mul-if1
     returns
-    mul-least
-    sub-least
-    least-requires
+    mul-lesser
+    sub-lesser
+    lesser-requires
     add-c
     loop-less
     loop-again

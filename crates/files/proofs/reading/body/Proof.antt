@@ -1,13 +1,8 @@
--- `files::body` meets its contract: each return is a way through the checks. Assumes nothing.
+-- `files::body` meets its contract: the rows as strings, then their sum. Assumes nothing.
 use borrow.Author.Needs.{needs}
-use native.Mathlib.Omega.{arith}
-use mathlib.Core.Path.{sym, _∙_}
-use Prim.Native.Nat.{_-_}
-use lib.ListN.{length, length-drop}
-use Rattle.laws.specs.Places.{row-end}
-use Rattle.laws.specs.Lay.{rest-is}
-use Rattle.files.specs.Fields.{width}
-use Rattle.files.specs.Checks.{body-spare, body-sum, body-gives, live-sum}
+use mathlib.Core.Bool.{true, false}
+use Rattle.laws.specs.Lists.{rest-is}
+use Rattle.files.specs.Checks.{row-bytes, body-refused, body-sum}
 use Rattle.files.proofs.reading.body.Statement.{statement}
 use Rattle.files.proofs.reading.body.Tie as tie
 
@@ -20,11 +15,14 @@ part-bytes-start c = search needs
 part-bytes-end : tie.Need-part-bytes-end
 part-bytes-end c = search needs
 
-any-spare-requires : tie.Need-any-spare-requires
-any-spare-requires c κs = (search needs, search needs, rw (rest-is, length-drop) (omega (arith, c .before .before .pre .long)))
+check-strings-requires : tie.Need-check-strings-requires
+check-strings-requires c κs = search needs
 
-returns : tie.Need-returns
-returns c = body-spare _ _ (sym (rw rest-is at (c .before .any-spare .ensures)) ∙ c .if1 .taken)
+enum-known-why : tie.Need-enum-known-why
+enum-known-why c = search needs
+
+enum-told : tie.Need-enum-told
+enum-told c = search needs
 
 width-requires : tie.Need-width-requires
 width-requires c κs = search needs
@@ -35,18 +33,32 @@ fits-requires c κs = (
   search needs,
   search needs,
   search needs,
-  λ v i h l. rw (rest-is, length-drop) (omega (arith, row-end {size = length (c .before .before .before .before .before .args .file .now) - 8} (c .width .result) (width (c .before .before .before .before .before .args .columns)) h (c .width .ensures) (omega arith))),
+  row-bytes _ _ (c .before .before .before .before .before .before .pre) _ (c .width .ensures),
 )
+
+returns : tie.Need-returns
+returns c =
+    let sound = c .before .before .before in
+    let strings = sound .before .before in
+    let pre = strings .before .before .before .pre in
+    let fits = rw rest-is at (c .before .fits2 .ensures) in
+    body-sum _ _ pre true _ (rw (rest-is, sound .enum-told .given .1) at (strings .check-strings .ensures))
+    (c .before .before .width .ensures) (rw fits at (c .if1 .taken))
 
 returns-2 : tie.Need-returns-2
 returns-2 c =
-    body-sum _ _ (sym (rw rest-is at (c .before .before .before .before .any-spare .ensures)) ∙ c .before .before .before .if1 .left)
-    (live-sum _ _ _ _ (c .before .before .width .ensures) (rw rest-is at (c .before .fits2 .ensures)) ∙ c .if2 .taken)
+    let strings = c .before .before .before in
+    let pre = strings .before .before .before .pre in
+    body-refused _ _ pre _ (rw (rest-is, c .before .why .given .1) at (strings .check-strings .ensures))
 
 returns-3 : tie.Need-returns-3
 returns-3 c =
-    body-gives _ _ (sym (rw rest-is at (c .before .before .before .before .any-spare .ensures)) ∙ c .before .before .before .if1 .left)
-    (live-sum _ _ _ _ (c .before .before .width .ensures) (rw rest-is at (c .before .fits2 .ensures)) ∙ c .if2 .left)
+    let sound = c .before .before .before in
+    let strings = sound .before .before in
+    let pre = strings .before .before .before .pre in
+    let fits = rw rest-is at (c .before .fits2 .ensures) in
+    body-sum _ _ pre false _ (rw (rest-is, sound .enum-told .given .1) at (strings .check-strings .ensures))
+    (c .before .before .width .ensures) (rw fits at (c .if1 .left))
 
 pub body-spec : {M : Type 1} → statement M
 body-spec =
@@ -55,9 +67,11 @@ body-spec =
     sub-bytes
     part-bytes-start
     part-bytes-end
-    any-spare-requires
-    returns
+    check-strings-requires
+    enum-known-why
+    enum-told
     width-requires
     fits-requires
+    returns
     returns-2
     returns-3)

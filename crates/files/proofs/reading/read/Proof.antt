@@ -3,7 +3,8 @@ use borrow.Author.Needs.{needs}
 use native.Mathlib.Omega.{arith}
 use mathlib.Core.Path.{refl, _∙_}
 use native.Mathlib.Nat.{mul-le-mul}
-use Rattle.laws.specs.Lay.{rest-is, lay-is}
+use Rattle.laws.specs.Lists.{rest-is}
+use Rattle.laws.specs.Lay.{lay-is}
 use Rattle.laws.specs.Outcome.{ends-refused, ends-given}
 use Rattle.files.specs.Files.{unpacked}
 use Rattle.files.specs.Checks.{checked-whole, read-refused, read-short, read-gives}
@@ -21,20 +22,25 @@ enum-known-rows c = search needs
 
 mul-if1 : tie.Need-mul-if1
 mul-if1 c =
-    let w = checked-whole _ _ (rw (c .before .rows .given .1) at (c .before .before .before .check .ensures)) in
+    let told = c .before in
+    let w = checked-whole _ _ (rw (told .rows .given .1) at (told .before .before .check .ensures)) in
     record { fits = omega (arith, mul-le-mul (w .few-rows) (w .few-columns)) }
 
 returns : tie.Need-returns
-returns c = ends-refused _ _ _ _ _ (read-short _ _ _ (rw (c .before .before .rows .given .1) at (c .before .before .before .before .check .ensures)) (c .if1 .taken))
+returns c =
+    let told = c .before .before in
+    ends-refused _ _ _ _ _ (read-short _ _ _ (rw (told .rows .given .1) at (told .before .before .check .ensures)) (c .if1 .taken))
 
 sub-unpack : tie.Need-sub-unpack
 sub-unpack c =
-    let w = checked-whole _ _ (rw (c .before .before .rows .given .1) at (c .before .before .before .before .check .ensures)) in
+    let told = c .before .before in
+    let w = checked-whole _ _ (rw (told .rows .given .1) at (told .before .before .check .ensures)) in
     omega (arith, w .long)
 
 part-unpack-start : tie.Need-part-unpack-start
 part-unpack-start c =
-    let w = checked-whole _ _ (rw (c .before .before .rows .given .1) at (c .before .before .before .before .check .ensures)) in
+    let told = c .before .before in
+    let w = checked-whole _ _ (rw (told .rows .given .1) at (told .before .before .check .ensures)) in
     omega (arith, w .long)
 
 part-unpack-end : tie.Need-part-unpack-end
@@ -44,7 +50,9 @@ unpack-requires : tie.Need-unpack-requires
 unpack-requires c κs = c .before .before .if1 .left
 
 returns-2 : tie.Need-returns-2
-returns-2 c = ends-refused _ _ _ _ _ (read-refused _ _ _ (rw (c .before .why .given .1) at (c .before .before .before .check .ensures)))
+returns-2 c =
+    let told = c .before in
+    ends-refused _ _ _ _ _ (read-refused _ _ _ (rw (told .why .given .1) at (told .before .before .check .ensures)))
 
 same-length : tie.Need-same-length
 same-length c = search needs
@@ -52,8 +60,12 @@ same-length c = search needs
 returns-3 : tie.Need-returns-3
 unfolding unpacked
 returns-3 c =
-    ends-given _ _ _ _ _ _ _ (read-gives _ _ _ (rw (c .before .before .before .before .before .before .before .rows .given .1) at (c .before .before .before .before .before .before .before .before .before .check .ensures)) (c .before .before .before .before .before .if1 .left)) refl
-    (rw rest-is at (c .before .before .unpack .ensures) ∙ lay-is _ _)
+    let filled = c .before .before in
+    let tried = filled .before .before .before in
+    let told = tried .before .before in
+    ends-given _ _ _ _ _ _ _
+    (read-gives _ _ _ (rw (told .rows .given .1) at (told .before .before .check .ensures)) (tried .if1 .left)) refl
+    (rw rest-is at (filled .unpack .ensures) ∙ lay-is _ _)
 
 pub read-spec : {M : Type 1} → statement M
 read-spec =

@@ -4,14 +4,15 @@ use native.Mathlib.Omega.{arith}
 use mathlib.Core.Path.{_≡_, refl}
 use Prim.Native.Nat.{_-_, _*_, _≤_}
 use native.Mathlib.Nat.{le-refl, mul-le-mul}
-use Rattle.laws.specs.Places.{row-end}
-use Rattle.laws.specs.Lay.{Laid, blocks, upto, blocks-none, laid-block, blocks-done, length-upto}
-use Rattle.files.specs.Fields.{bitOf, width}
+use Rattle.laws.specs.Lists.{row-end, blocks, upto, length-upto}
+use Rattle.laws.specs.Lay.{Laid, blocks-none, laid-block, blocks-done}
+use Rattle.fields.specs.Fields.{bitOf, width}
 use Rattle.files.proofs.reading.unpack.Statement.{statement}
 use Rattle.files.proofs.reading.unpack.Tie as tie
 
 abbrev Inv-loop : tie.InvT-loop
-Inv-loop bytes m n entries₀ w v₀ entries v = (v ≤ m) × (w ≡ width n) × Laid 0 (blocks v (λ v. upto n (bitOf bytes (v * width n)))) entries₀ entries
+Inv-loop bytes m n entries₀ w v₀ entries v =
+    (v ≤ m) × (w ≡ width n) × Laid 0 (blocks v (λ v. upto n (bitOf bytes (v * width n)))) entries₀ entries
 
 abbrev μ-loop : tie.MeasureT-loop
 μ-loop bytes m n entries₀ w v₀ entries v = m - v
@@ -34,10 +35,14 @@ mul-unpack-row c =
     }
 
 mul-unpack-row-2 : tie.Need-mul-unpack-row-2 Inv-loop μ-loop
-mul-unpack-row-2 c = record { fits = omega (arith, row-end (c .before .before .before .before .before .before .args .n) (c .before .before .before .before .before .before .args .n) (c .before .loop-test .taken) refl (c .before .before .before .before .before .before .pre)) }
+mul-unpack-row-2 c =
+    let s = c .before .before .before .before .before .before in
+    record { fits = omega (arith, row-end (s .args .n) (s .args .n) (c .before .loop-test .taken) refl (s .pre)) }
 
 unpack-row-requires : tie.Need-unpack-row-requires Inv-loop μ-loop
-unpack-row-requires c κs = omega (arith, row-end (c .before .before .before .before .before .before .args .n) (c .before .before .before .before .before .before .args .n) (c .before .loop-test .taken) refl (c .before .before .before .before .before .before .pre))
+unpack-row-requires c κs =
+    let s = c .before .before .before .before .before .before in
+    omega (arith, row-end (s .args .n) (s .args .n) (c .before .loop-test .taken) refl (s .pre))
 
 add-v : tie.Need-add-v Inv-loop μ-loop
 add-v c = search needs
@@ -46,13 +51,16 @@ loop-less : tie.Need-loop-less Inv-loop μ-loop
 loop-less c = search needs
 
 loop-again : tie.Need-loop-again Inv-loop μ-loop
-loop-again c = (
-  search needs,
-  search needs,
-  laid-block _ _ _ _ _ _ _ _ (λ v. length-upto _ _) (omega arith)
-      (omega (arith, row-end (c .before .before .before .before .before .before .before .before .before .args .n) (c .before .before .before .before .before .before .before .before .before .args .n) (c .before .before .before .before .loop-test .taken) refl (c .before .before .before .before .before .before .before .before .before .pre)))
-      (rw (c .before .before .before .before .before .loop .inv .1) at (c .before .before .unpack-row .ensures)) (c .before .before .before .before .before .loop .inv .2),
-)
+loop-again c =
+    let turn = c .before .before .before .before in
+    let at = turn .before .loop in
+    let s = turn .before .before .before .before .before in
+    let row = row-end (s .args .n) (s .args .n) (turn .loop-test .taken) refl (s .pre) in (
+      search needs,
+      search needs,
+      laid-block _ _ _ _ _ _ _ _ (λ v. length-upto _ _) (omega arith) (omega arith)
+          (rw (at .inv .1) at (c .before .before .unpack-row .ensures)) (at .inv .2),
+    )
 
 same-length : tie.Need-same-length Inv-loop μ-loop
 same-length c = c .before .loop .inv .2 .long

@@ -2,8 +2,9 @@
 use borrow.Author.Needs.{needs}
 use mathlib.Core.Path.{refl}
 use Prim.Native.Nat.{_-_, _≤_}
-use Rattle.laws.specs.Lay.{Laid, upto, upto-none, laid-store, upto-done}
-use Rattle.files.specs.Fields.{bitOf}
+use Rattle.laws.specs.Lists.{upto}
+use Rattle.laws.specs.Lay.{Laid, upto-none, laid-store, upto-done}
+use Rattle.fields.specs.Fields.{bitOf}
 use Rattle.files.proofs.reading.unpack_row.Statement.{statement}
 use Rattle.files.proofs.reading.unpack_row.Tie as tie
 

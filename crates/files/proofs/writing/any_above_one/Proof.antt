@@ -4,14 +4,13 @@ use mathlib.Core.Path.{_≡_, sym}
 use Prim.Native.Nat.{_-_, _≤_}
 use mathlib.Core.Bool.{false}
 use borrow.Author.Tests.{lt-ltb, le-ltb}
-use lib.Dec.{ltb}
-use lib.ListN.{getD}
-use Rattle.laws.specs.Sums.{any, any-none, any-more, any-found, any-done}
+use Rattle.laws.specs.Sums.{any-none, any-more, any-found, any-done}
+use Rattle.files.specs.Files.{aboveOne}
 use Rattle.files.proofs.writing.any_above_one.Statement.{statement}
 use Rattle.files.proofs.writing.any_above_one.Tie as tie
 
 abbrev Inv-loop : tie.InvT-loop
-Inv-loop entries n i₀ i = (i ≤ n) × (any i (λ i. ltb 1 (getD entries i 0)) ≡ false)
+Inv-loop entries n i₀ i = (i ≤ n) × (aboveOne i entries ≡ false)
 
 abbrev μ-loop : tie.MeasureT-loop
 μ-loop entries n i₀ i = n - i

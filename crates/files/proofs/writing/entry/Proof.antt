@@ -1,6 +1,6 @@
 -- `files::entry` meets its contract. Assumes nothing.
 use borrow.Author.Needs.{needs}
-use Rattle.files.specs.Fields.{padded-below, padded-above}
+use Rattle.fields.specs.Fields.{padded-below, padded-above}
 use Rattle.files.proofs.writing.entry.Statement.{statement}
 use Rattle.files.proofs.writing.entry.Tie as tie
 

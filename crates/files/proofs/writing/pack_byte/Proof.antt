@@ -4,7 +4,7 @@ use native.Mathlib.Omega.{arith}
 use Prim.Native.Nat.{_+_, _-_, _*_, _≤_}
 use lib.ListN.{getD}
 use Rattle.laws.specs.Digits.{Spelt, spelt-none, spelt-more, spelt-room, spelt-done}
-use Rattle.files.specs.Fields.{padded, padded-le}
+use Rattle.fields.specs.Fields.{padded, padded-le}
 use Rattle.files.proofs.writing.pack_byte.Statement.{statement}
 use Rattle.files.proofs.writing.pack_byte.Tie as tie
 
@@ -31,8 +31,15 @@ entry-requires c κs = search needs
 
 add-byte : tie.Need-add-byte Inv-loop μ-loop
 add-byte c =
+    let at = c .before .before .loop in
+    let s = c .before .before .before .before in
     record {
-      fits = omega (arith, spelt-room _ _ _ 8 _ (c .before .loop-test .taken) (c .before .before .loop .inv .1), padded-le _ _ (8 * c .before .before .before .before .args .q + c .before .before .loop .t) (c .before .before .before .before .pre .2), c .entry .ensures);
+      fits = omega (
+        arith,
+        spelt-room _ _ _ 8 _ (c .before .loop-test .taken) (at .inv .1),
+        padded-le _ _ (8 * s .args .q + at .t) (s .pre .2),
+        c .entry .ensures,
+      );
     }
 
 add-t : tie.Need-add-t Inv-loop μ-loop
@@ -42,7 +49,10 @@ loop-less : tie.Need-loop-less Inv-loop μ-loop
 loop-less c = search needs
 
 loop-again : tie.Need-loop-again Inv-loop μ-loop
-loop-again c = (search needs, spelt-more _ _ _ _ _ (c .entry .ensures) (rw (c .entry .ensures) (padded-le _ _ _ (c .before .before .before .before .pre .2))) (c .before .before .loop .inv .1))
+loop-again c =
+    let at = c .before .before .loop in
+    let small = padded-le _ _ _ (c .before .before .before .before .pre .2) in
+    (search needs, spelt-more _ _ _ _ _ (c .entry .ensures) (rw (c .entry .ensures) small) (at .inv .1))
 
 returns : tie.Need-returns Inv-loop μ-loop
 returns c = spelt-done _ _ _ _ _ (c .before .loop .inv .0) (c .loop-test .left) (c .before .loop .inv .1)

@@ -4,8 +4,9 @@ use mathlib.Core.Path.{_≡_, refl}
 use Prim.Native.Nat.{_+_, _-_, _*_, _≤_}
 use lib.ListN.{getD}
 use Rattle.laws.specs.Digits.{number}
-use Rattle.laws.specs.Lay.{Laid, upto, upto-none, laid-store, upto-done}
-use Rattle.files.specs.Fields.{padded, packed, width}
+use Rattle.laws.specs.Lists.{upto}
+use Rattle.laws.specs.Lay.{Laid, upto-none, laid-store, upto-done}
+use Rattle.fields.specs.Fields.{padded, packed, width}
 use Rattle.files.proofs.writing.pack_row.Statement.{statement}
 use Rattle.files.proofs.writing.pack_row.Tie as tie
 
@@ -38,14 +39,18 @@ loop-less : tie.Need-loop-less Inv-loop μ-loop
 loop-less c = search needs
 
 loop-again : tie.Need-loop-again Inv-loop μ-loop
-loop-again c = (search needs, search needs, laid-store _ _ _ _ _ _ _ refl (search needs) (c .pack-byte .ensures) (c .before .before .loop .inv .2))
+loop-again c =
+    let at = c .before .before .loop in
+    (search needs, search needs, laid-store _ _ _ _ _ _ _ refl (search needs) (c .pack-byte .ensures) (at .inv .2))
 
 same-length : tie.Need-same-length Inv-loop μ-loop
 same-length c = c .before .loop .inv .2 .long
 
 returns : tie.Need-returns Inv-loop μ-loop
 unfolding packed
-returns c = upto-done _ _ _ _ _ _ (rw (c .before .loop .inv .1) at (c .before .loop .inv .0)) (rw (c .before .loop .inv .1) at (c .loop-test .left)) (c .before .loop .inv .2)
+returns c =
+    let at = c .before .loop in
+    upto-done _ _ _ _ _ _ (rw (at .inv .1) at (at .inv .0)) (rw (at .inv .1) at (c .loop-test .left)) (at .inv .2)
 
 pub pack-row-spec : {M : Type 1} → statement M
 pack-row-spec =

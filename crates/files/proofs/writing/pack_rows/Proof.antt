@@ -3,11 +3,12 @@ use borrow.Author.Needs.{needs}
 use native.Mathlib.Omega.{arith}
 use mathlib.Core.Path.{_≡_, refl, ap}
 use Prim.Native.Nat.{ℕ, _+_, _-_, _*_, _≤_}
-use Rattle.laws.specs.Places.{row-end}
-use lib.ListN.{length, getD}
-use Rattle.laws.specs.Lay.{Laid, blocks, blocks-none, laid-block, blocks-done}
-use Rattle.files.specs.Fields.{packed, length-packed, width}
-use Rattle.files.specs.Writing.{cell}
+use Rattle.laws.specs.Lists.{row-end, blocks}
+use Rattle.laws.specs.Lay.{Laid, blocks-none, laid-block, blocks-done}
+use lib.ListN.{getD}
+use Rattle.fields.specs.Fields.{packed, length-packed, width}
+use Rattle.files.specs.Sizes.{cell, row-place}
+use Rattle.files.specs.Writing.{no-entry-above}
 use Rattle.files.proofs.writing.pack_rows.Statement.{statement}
 use Rattle.files.proofs.writing.pack_rows.Tie as tie
 
@@ -25,21 +26,32 @@ loop-holds : tie.Need-loop-holds Inv-loop μ-loop
 loop-holds c = (search needs, search needs, blocks-none _ _ _)
 
 mul-pack-row : tie.Need-mul-pack-row Inv-loop μ-loop
-mul-pack-row c = record { fits = omega (arith, row-end (c .before .before .before .before .before .args .n) (c .before .before .before .before .before .args .n) (c .loop-test .taken) refl (c .before .before .before .before .before .pre .2)) }
+mul-pack-row c =
+    let s = c .before .before .before .before .before in
+    record { fits = omega (arith, row-end (s .args .n) (s .args .n) (c .loop-test .taken) refl (s .pre .2)) }
 
 mul-pack-row-2 : tie.Need-mul-pack-row-2 Inv-loop μ-loop
-mul-pack-row-2 c = record { fits = omega (arith, row-end {size = length (c .before .before .before .before .before .before .args .file .now) - 8} (c .before .before .before .width .result) (width (c .before .before .before .before .before .before .args .n)) (c .before .loop-test .taken) (c .before .before .loop .inv .1) (omega arith)) }
+mul-pack-row-2 c =
+    let turn = c .before in
+    let s = turn .before .before .before .before .before in
+    record { fits = omega (arith, row-place _ _ _ _ _ (turn .loop-test .taken) (turn .before .loop .inv .1) (s .pre .3)) }
 
 add-pack-row : tie.Need-add-pack-row Inv-loop μ-loop
-add-pack-row c = record { fits = omega (arith, row-end {size = length (c .before .before .before .before .before .before .args .file .now) - 8} (c .before .before .before .width .result) (width (c .before .before .before .before .before .before .args .n)) (c .before .loop-test .taken) (c .before .before .loop .inv .1) (omega arith)) }
+add-pack-row c =
+    let turn = c .before in
+    let s = turn .before .before .before .before .before in
+    record { fits = omega (arith, row-place _ _ _ _ _ (turn .loop-test .taken) (turn .before .loop .inv .1) (s .pre .3)) }
 
 pack-row-requires : tie.Need-pack-row-requires Inv-loop μ-loop
-pack-row-requires c κs = (
-  omega (arith, row-end (c .before .before .before .before .before .before .args .n) (c .before .before .before .before .before .before .args .n) (c .before .loop-test .taken) refl (c .before .before .before .before .before .before .pre .2)),
-  search needs,
-  omega (arith, row-end {size = length (c .before .before .before .before .before .before .args .file .now) - 8} (c .before .before .before .width .result) (width (c .before .before .before .before .before .before .args .n)) (c .before .loop-test .taken) (c .before .before .loop .inv .1) (omega arith), c .before .before .loop .inv .2 .long),
-  λ i h. c .before .before .before .before .before .before .pre .4 _ (cell _ _ _ i (c .before .loop-test .taken) h),
-)
+pack-row-requires c κs =
+    let turn = c .before in
+    let at = turn .before .loop in
+    let s = turn .before .before .before .before .before in (
+      omega (arith, row-end (s .args .n) (s .args .n) (turn .loop-test .taken) refl (s .pre .2)),
+      search needs,
+      omega (arith, row-place _ _ _ _ _ (turn .loop-test .taken) (at .inv .1) (s .pre .3), at .inv .2 .long),
+      λ i h. no-entry-above _ (s .args .entries .now) (s .pre .4) _ (cell _ _ _ i (turn .loop-test .taken) h),
+    )
 
 add-v : tie.Need-add-v Inv-loop μ-loop
 add-v c = search needs
@@ -48,12 +60,16 @@ loop-less : tie.Need-loop-less Inv-loop μ-loop
 loop-less c = search needs
 
 loop-again : tie.Need-loop-again Inv-loop μ-loop
-loop-again c = (
-  search needs,
-  search needs,
-  laid-block _ _ _ _ _ _ _ _ (λ v. length-packed _ _) (ap (λ (w : ℕ). 8 + c .before .before .before .before .before .loop .v * w) (c .before .before .before .before .before .loop .inv .1))
-      (omega (arith, row-end {size = length (c .before .before .before .before .before .before .before .before .before .args .file .now) - 8} (c .before .before .before .before .before .before .width .result) (width (c .before .before .before .before .before .before .before .before .before .args .n)) (c .before .before .before .before .loop-test .taken) (c .before .before .before .before .before .loop .inv .1) (omega arith))) (c .before .before .pack-row .ensures) (c .before .before .before .before .before .loop .inv .2),
-)
+loop-again c =
+    let turn = c .before .before .before .before in
+    let at = turn .before .loop in
+    let s = turn .before .before .before .before .before in
+    let room = row-place _ _ _ _ _ (turn .loop-test .taken) (at .inv .1) (s .pre .3) in (
+      search needs,
+      search needs,
+      laid-block _ _ _ _ _ _ _ _ (λ v. length-packed _ _) (ap (λ (w : ℕ). 8 + at .v * w) (at .inv .1)) room
+          (c .before .before .pack-row .ensures) (at .inv .2),
+    )
 
 same-length : tie.Need-same-length Inv-loop μ-loop
 same-length c = c .before .loop .inv .2 .long

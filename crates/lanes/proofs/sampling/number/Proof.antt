@@ -45,12 +45,17 @@ loop-again : tie.Need-loop-again Inv-loop μ-loop
 loop-again c = (
   search needs,
   search needs,
-  number-more (c .before .before .before .before .before .args .outputs .now) (c .before .before .before .before .before .args .j) _ _ _ (c .before .before .before .loop .inv .0) (search needs)
-      (c .lane .ensures .0) (c .lane .ensures .1) (c .before .before .before .loop .inv .2),
+  let at = c .before .before .before in
+      let start = at .before .before in
+      number-more (start .args .outputs .now) (start .args .j) _ _ _ (at .loop .inv .0) (search needs) (c .lane .ensures .0)
+      (c .lane .ensures .1) (at .loop .inv .2),
 )
 
 returns : tie.Need-returns Inv-loop μ-loop
-returns c = number-done (c .before .before .before .args .outputs .now) (c .before .before .before .args .j) _ _ (c .before .loop .inv .1) (c .loop-test .left) (c .before .loop .inv .2)
+returns c =
+    let at = c .before in
+    let start = at .before .before in
+    number-done (start .args .outputs .now) (start .args .j) _ _ (at .loop .inv .1) (c .loop-test .left) (at .loop .inv .2)
 
 pub number-spec : {M : Type 1} → statement M
 number-spec =

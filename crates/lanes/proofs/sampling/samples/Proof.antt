@@ -1,14 +1,11 @@
 -- `lanes::samples` meets its contract: the checks, then j samples are laid. Assumes nothing.
 use borrow.Author.Needs.{needs}
 use native.Mathlib.Omega.{arith}
-use mathlib.Core.Path.{refl, _∙_}
 use Prim.Native.Nat.{_-_, _≤_}
-use Rattle.laws.specs.Lay.{Laid, upto, upto-none, laid-store, upto-done, lay-is}
-use Rattle.laws.specs.Outcome.{ends-refused, ends-given}
-use Rattle.files.specs.Checks.{inside, below, above}
+use Rattle.laws.specs.Lists.{upto}
+use Rattle.laws.specs.Lay.{Laid, upto-none, laid-store}
 use Rattle.lanes.specs.Slicing.{lanes}
-use Rattle.programs.specs.Limits.{most-outputs}
-use Rattle.lanes.specs.Samples.{code, sampleOf, lanes-size, lanes-short, lanes-give}
+use Rattle.lanes.specs.Samples.{code, sampleOf, reads-none, reads-many, reads-short, reads-all}
 use Rattle.lanes.proofs.sampling.samples.Statement.{statement}
 use Rattle.lanes.proofs.sampling.samples.Tie as tie
 
@@ -19,14 +16,13 @@ abbrev μ-loop : tie.MeasureT-loop
 μ-loop outputs samples₀ j₀ samples j = lanes - j
 
 returns : tie.Need-returns Inv-loop μ-loop
-returns c = ends-refused _ _ _ _ _ (lanes-size _ _ _ (below most-outputs _ (c .if1 .taken)))
+returns c = reads-none _ _ _ (c .if1 .taken)
 
 returns-2 : tie.Need-returns-2 Inv-loop μ-loop
-returns-2 c = ends-refused _ _ _ _ _ (lanes-size _ _ _ (above most-outputs _ (c .before .if1 .left) (c .if2 .taken)))
+returns-2 c = reads-many _ _ _ (c .before .if1 .left) (c .if2 .taken)
 
 returns-3 : tie.Need-returns-3 Inv-loop μ-loop
-returns-3 c =
-    ends-refused _ _ _ _ _ (lanes-short _ _ _ (inside most-outputs _ (c .before .before .if1 .left) (c .before .if2 .left)) (c .if3 .taken))
+returns-3 c = reads-short _ _ _ (c .before .before .if1 .left) (c .before .if2 .left) (c .if3 .taken)
 
 loop-holds : tie.Need-loop-holds Inv-loop μ-loop
 loop-holds c = (search needs, upto-none _ _ _)
@@ -51,9 +47,11 @@ same-length c = search needs
 
 returns-4 : tie.Need-returns-4 Inv-loop μ-loop
 returns-4 c =
-    let within = inside most-outputs _ (c .before .before .before .before .if1 .left) (c .before .before .before .if2 .left) in
-    ends-given _ _ _ _ _ _ _ (lanes-give _ _ _ within (c .before .before .if3 .left)) refl
-    (upto-done _ _ _ _ _ _ (c .before .loop .inv .0) (c .loop-test .left) (c .before .loop .inv .1) ∙ lay-is _ _)
+    let at = c .before in
+    let room = at .before in
+    let few = room .before in
+    reads-all _ _ _ (few .before .if1 .left) (few .if2 .left) (room .if3 .left) _ _ (at .loop .inv .0) (c .loop-test .left)
+    (at .loop .inv .1)
 
 pub samples-spec : {M : Type 1} → statement M
 samples-spec =

@@ -18,9 +18,12 @@ negated-if-requires c κs = search needs
 
 returns : tie.Need-returns
 returns c =
+    let number = c .before in
+    let lane = number .before in
+    let hit = lane .before in
     kept _ _ (record { sfits = c .negated-if .ok })
-    (signed-hit _ _ _ (c .before .before .before .before .hit .ensures) _ _ _ _ (c .before .before .before .if1 .taken)
-    (c .before .before .lane .ensures .0) (c .before .number .ensures) (c .negated-if .ensures))
+    (signed-hit _ _ _ (hit .before .hit .ensures) _ _ _ _ (hit .if1 .taken) (lane .lane .ensures .0) (number .number .ensures)
+    (c .negated-if .ensures))
 
 returns-2 : tie.Need-returns-2
 returns-2 c = signed-miss _ _ _ (c .before .hit .ensures) _ (c .if1 .left)

@@ -3,8 +3,9 @@ use borrow.Author.Needs.{needs}
 use native.Mathlib.Omega.{arith}
 use mathlib.Core.Path.{_≡_}
 use Prim.Native.Nat.{_-_, _≤_}
-use Rattle.laws.specs.Lay.{Laid, upto, upto-none, laid-store, upto-done}
-use Rattle.files.specs.Fields.{width}
+use Rattle.laws.specs.Lists.{upto}
+use Rattle.laws.specs.Lay.{Laid, upto-none, laid-store, upto-done}
+use Rattle.fields.specs.Fields.{width}
 use Rattle.lanes.specs.Slicing.{wordOf}
 use Rattle.lanes.proofs.slicing.put_words.Statement.{statement}
 use Rattle.lanes.proofs.slicing.put_words.Tie as tie
@@ -40,7 +41,8 @@ loop-again : tie.Need-loop-again Inv-loop μ-loop
 loop-again c = (
   search needs,
   search needs,
-  laid-store _ _ _ _ _ _ _ (omega arith) (search needs) (rw (c .before .before .loop .inv .1) at (c .word .ensures)) (c .before .before .loop .inv .2),
+  let at = c .before .before .loop in
+      laid-store _ _ _ _ _ _ _ (omega arith) (search needs) (rw (at .inv .1) at (c .word .ensures)) (at .inv .2),
 )
 
 same-length : tie.Need-same-length Inv-loop μ-loop

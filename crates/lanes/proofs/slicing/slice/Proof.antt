@@ -1,7 +1,8 @@
 -- `lanes::slice` meets its contract: the checks of the strings, then that of the words, then the words are laid. Assumes nothing.
 use borrow.Author.Needs.{needs}
 use mathlib.Core.Path.{sym, _∙_}
-use Rattle.laws.specs.Lay.{lay-is, length-upto}
+use Rattle.laws.specs.Lists.{length-upto}
+use Rattle.laws.specs.Lay.{lay-is}
 use Rattle.laws.specs.Outcome.{ends-refused, ends-given}
 use Rattle.lanes.specs.Slicing.{slice-refused, slice-short, slice-gives, strings-there}
 use Rattle.lanes.proofs.slicing.slice.Statement.{statement}
@@ -27,7 +28,8 @@ put-words-requires c κs =
     strings-there _ _ _ sound (c .before .if1 .left)
 
 returns-2 : tie.Need-returns-2
-returns-2 c = ends-refused _ _ _ _ _ (slice-refused _ _ _ _ (rw (c .before .why .given .1) at (c .before .before .before .check-strings .ensures)))
+returns-2 c =
+    ends-refused _ _ _ _ _ (slice-refused _ _ _ _ (rw (c .before .why .given .1) at (c .before .before .before .check-strings .ensures)))
 
 same-length : tie.Need-same-length
 same-length c = search needs

@@ -4,7 +4,7 @@ use native.Mathlib.Omega.{arith}
 use Prim.Native.Nat.{_-_, _*_, _/_, _≤_}
 use Rattle.laws.specs.Digits.{and-one}
 use Rattle.laws.specs.Words.{Packed, packed-none, packed-more}
-use Rattle.files.specs.Fields.{bitOf, bit-read}
+use Rattle.fields.specs.Fields.{bitOf, bit-read}
 use Rattle.lanes.specs.Slicing.{lanes, word-done, string-in}
 use Rattle.lanes.proofs.slicing.word.Statement.{statement}
 use Rattle.lanes.proofs.slicing.word.Tie as tie
@@ -21,17 +21,20 @@ loop-holds c = (search needs, packed-none _)
 mul-word : tie.Need-mul-word Inv-loop μ-loop
 mul-word c =
     let s = c .before .before in
-    record { fits = omega (arith, string-in (c .before .loop .j) (s .args .w) (s .args .i / 8) _ (c .loop-test .taken) (s .pre .0) (s .pre .1)) }
+    let inside = string-in (c .before .loop .j) (s .args .w) (s .args .i / 8) _ (c .loop-test .taken) (s .pre .0) (s .pre .1) in
+    record { fits = omega (arith, inside) }
 
 add-word : tie.Need-add-word Inv-loop μ-loop
 add-word c =
     let s = c .before .before in
-    record { fits = omega (arith, string-in (c .before .loop .j) (s .args .w) (s .args .i / 8) _ (c .loop-test .taken) (s .pre .0) (s .pre .1)) }
+    let inside = string-in (c .before .loop .j) (s .args .w) (s .args .i / 8) _ (c .loop-test .taken) (s .pre .0) (s .pre .1) in
+    record { fits = omega (arith, inside) }
 
 shared-slice-read-word : tie.Need-shared-slice-read-word Inv-loop μ-loop
 shared-slice-read-word c =
     let s = c .before .before .before in
-    omega (arith, string-in (c .before .before .loop .j) (s .args .w) (s .args .i / 8) _ (c .before .loop-test .taken) (s .pre .0) (s .pre .1))
+    let at = c .before .before .loop in
+    omega (arith, string-in (at .j) (s .args .w) (s .args .i / 8) _ (c .before .loop-test .taken) (s .pre .0) (s .pre .1))
 
 sub-word : tie.Need-sub-word Inv-loop μ-loop
 sub-word c = search needs
@@ -55,8 +58,10 @@ loop-less : tie.Need-loop-less Inv-loop μ-loop
 loop-less c = search needs
 
 loop-again : tie.Need-loop-again Inv-loop μ-loop
-loop-again c =
-    (search needs, packed-more _ lanes _ _ _ (c .before .loop-test .taken) (bit-read _ _ _) (rw and-one (omega arith)) (c .before .before .loop .inv .1))
+loop-again c = (
+  search needs,
+  packed-more _ lanes _ _ _ (c .before .loop-test .taken) (bit-read _ _ _) (rw and-one (omega arith)) (c .before .before .loop .inv .1),
+)
 
 returns : tie.Need-returns Inv-loop μ-loop
 returns c = word-done _ _ _ _ _ (c .before .loop .inv .0) (c .loop-test .left) (c .before .loop .inv .1)

@@ -1,8 +1,19 @@
--- `machine::carry_on` meets its contract: instructions before the position are passed, and those of the budget carried out. Assumes nothing.
+-- `machine::carry_on` meets its contract: instructions before the position are passed, and those of the budget carried out.
+-- Assumes nothing.
 use borrow.Author.Needs.{needs}
 use Rattle.machine.specs.Turns.{run-formed, run-ends}
 use Rattle.machine.proofs.runs.carry_on.Statement.{statement}
 use Rattle.machine.proofs.runs.carry_on.Tie as tie
+
+-- from where the position is found back to the two that are prepared, and to the entry
+abbrev outputs : tie.After-skip → tie.After-prepare2
+outputs c = c .before .before .before .before
+
+abbrev registers : tie.After-prepare2 → tie.After-prepare
+registers c = c .before .before .before .before
+
+abbrev entry : tie.After-prepare → tie.Start
+entry c = c .before .before .before .before .before .before
 
 prepare-requires : tie.Need-prepare-requires
 prepare-requires c κs = search needs
@@ -29,7 +40,13 @@ cast-run-from : tie.Need-cast-run-from
 cast-run-from c = search needs
 
 run-from-requires : tie.Need-run-from-requires
-run-from-requires c κs = run-formed (c .before .before .before .before .before .before .before .before .before .before .before .before .before .before .before .before .args .fresh) _ _ (c .before .before .before .before .before .before .before .before .before .before .before .before .before .before .before .before .args .inputs .now) (c .before .before .before .before .before .before .before .before .before .before .before .before .before .before .before .before .args .registers .now) (c .before .before .before .before .before .before .before .before .before .before .before .before .before .before .before .before .args .outputs .now) _ _ _ _ (c .before .before .before .before .before .before .before .before .before .before .prepare .ensures) (c .before .before .before .before .before .before .prepare2 .ensures) (c .before .before .before .before .before .before .before .before .before .before .before .before .before .before .before .before .pre .0) _ (c .before .before .skip .ensures) _ (c .before .before .before .lesser .ensures)
+run-from-requires c κs =
+    let k = c .before .before in
+    let o = outputs k in
+    let r = registers o in
+    let s = entry r in
+    run-formed (s .args .fresh) _ _ (s .args .inputs .now) (s .args .registers .now) (s .args .outputs .now) _ _ _ _ (r .prepare .ensures)
+    (o .prepare2 .ensures) (s .pre .0) _ (k .skip .ensures) _ (k .before .lesser .ensures)
 
 add-t18 : tie.Need-add-t18
 add-t18 c = search needs
@@ -44,7 +61,14 @@ same-length-2 : tie.Need-same-length-2
 same-length-2 c = search needs
 
 returns : tie.Need-returns
-returns c = run-ends (c .before .before .before .before .before .before .before .before .before .before .before .before .before .before .before .before .before .before .before .before .before .args .fresh) _ _ (c .before .before .before .before .before .before .before .before .before .before .before .before .before .before .before .before .before .before .before .before .before .args .inputs .now) (c .before .before .before .before .before .before .before .before .before .before .before .before .before .before .before .before .before .before .before .before .before .args .registers .now) (c .before .before .before .before .before .before .before .before .before .before .before .before .before .before .before .before .before .before .before .before .before .args .outputs .now) _ _ _ _ (c .before .before .before .before .before .before .before .before .before .before .before .before .before .before .before .prepare .ensures) (c .before .before .before .before .before .before .before .before .before .before .before .prepare2 .ensures) (c .before .before .before .before .before .before .before .before .before .before .before .before .before .before .before .before .before .before .before .before .before .pre .0) _ (c .before .before .before .before .before .before .before .skip .ensures) _ (c .before .before .before .before .before .before .before .before .lesser .ensures) _ _ (c .before .before .before .before .run-from .ensures)
+returns c =
+    let x = c .before .before .before .before in
+    let k = x .before .before .before in
+    let o = outputs k in
+    let r = registers o in
+    let s = entry r in
+    run-ends (s .args .fresh) _ _ (s .args .inputs .now) (s .args .registers .now) (s .args .outputs .now) _ _ _ _ (r .prepare .ensures)
+    (o .prepare2 .ensures) (s .pre .0) _ (k .skip .ensures) _ (k .before .lesser .ensures) _ _ (x .run-from .ensures)
 
 pub carry-on-spec : {M : Type 1} → statement M
 carry-on-spec =

@@ -17,10 +17,15 @@ loop-holds : tie.Need-loop-holds Inv-loop μ-loop
 loop-holds c = (past-none _ _ _, search needs)
 
 field-at-requires : tie.Need-field-at-requires Inv-loop μ-loop
-field-at-requires c κs = let h = past-room _ _ _ _ _ (c .before .loop .inv .0) (omega arith) (c .before .before .before .pre .0) in omega arith
+field-at-requires c κs =
+    let h = past-room _ _ _ _ _ (c .before .loop .inv .0) (omega arith) (c .before .before .before .pre .0) in
+    omega arith
 
 add-at : tie.Need-add-at Inv-loop μ-loop
-add-at c = let h = past-fits _ _ _ _ _ (c .before .before .loop .inv .0) (omega arith) (c .before .before .before .before .pre .0) _ (c .field-at .ensures .0) in omega arith
+add-at c =
+    let l = c .before .before in
+    let h = past-fits _ _ _ _ _ (l .loop .inv .0) (omega arith) (l .before .before .pre .0) _ (c .field-at .ensures .0) in
+    omega arith
 
 add-k : tie.Need-add-k Inv-loop μ-loop
 add-k c = search needs
@@ -29,7 +34,9 @@ loop-less : tie.Need-loop-less Inv-loop μ-loop
 loop-less c = search needs
 
 loop-again : tie.Need-loop-again Inv-loop μ-loop
-loop-again c = (past-turn _ _ _ _ _ (c .before .before .loop .inv .0) (omega arith) (c .before .before .before .before .pre .0) _ (c .field-at .ensures .0), search needs)
+loop-again c =
+    let l = c .before .before in
+    (past-turn _ _ _ _ _ (l .loop .inv .0) (omega arith) (l .before .before .pre .0) _ (c .field-at .ensures .0), search needs)
 
 returns : tie.Need-returns Inv-loop μ-loop
 returns c = past-done _ _ _ _ _ _ (c .before .loop .inv .1) (c .loop-test .left) (c .before .loop .inv .0)

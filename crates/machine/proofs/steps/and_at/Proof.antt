@@ -1,6 +1,6 @@
 -- `machine::and_at` meets its contract. Assumes nothing.
 use borrow.Author.Needs.{needs}
-use Rattle.machine.specs.Turns.{and-made}
+use Rattle.machine.specs.Steps.{conjunction, gate-made}
 use Rattle.machine.proofs.steps.and_at.Statement.{statement}
 use Rattle.machine.proofs.steps.and_at.Tie as tie
 
@@ -44,7 +44,10 @@ same-length : tie.Need-same-length
 same-length c = search needs
 
 returns : tie.Need-returns
-returns c = and-made _ _ _ _ _ _ (c .before .before .before .before .field-at .ensures .0) (c .before .before .before .field-at2 .ensures .0) (c .before .before .field-at3 .ensures .0)
+returns c =
+    let b = c .before .before in
+    let a = b .before in
+    gate-made conjunction _ _ _ _ _ _ (a .before .field-at .ensures .0) (a .field-at2 .ensures .0) (b .field-at3 .ensures .0)
 
 pub and-at-spec : {M : Type 1} → statement M
 and-at-spec =

@@ -1,8 +1,9 @@
 -- `machine::and_fours` meets its contract: what is left from here ends where the whole ends. Assumes nothing.
 use borrow.Author.Needs.{needs}
 use native.Mathlib.Omega.{arith}
-use mathlib.Core.Path.{_∙_}
-use Rattle.machine.specs.Turns.{Along, along-none, four-stand, first-gate, second-gate, third-gate, fourth-gate, gate-kept, and-long, four-ands}
+use Rattle.machine.specs.Steps.{conjunction}
+use Rattle.machine.specs.Turns.{Along, NextFour, along-none, four-stand, gates-room, four-done}
+use Rattle.machine.specs.Turns.{first-gate, second-gate, third-gate, fourth-gate}
 use Rattle.machine.proofs.steps.and_fours.Statement.{statement}
 use Rattle.machine.proofs.steps.and_fours.Tie as tie
 
@@ -12,44 +13,72 @@ Inv-loop file from steps registers₀ more₀ at₀ registers more at = Along fi
 abbrev μ-loop : tie.MeasureT-loop
 μ-loop file from steps registers₀ more₀ at₀ registers more at = more
 
+-- where the four kinds have been tried, four gates are next
+turn : (c : tie.Then1 Inv-loop μ-loop) → NextFour conjunction (c .before .before .before .loop .inv)
+turn c = record { some = c .before .before .loop-test .taken; kinds = c .before .four .ensures (c .if1 .taken) }
+
+-- from each gate that is done to the one before it
+abbrev first : tie.After-and-at2 Inv-loop μ-loop → tie.After-and-at Inv-loop μ-loop
+first c = c .before .before .before .before
+
+abbrev second : tie.After-and-at3 Inv-loop μ-loop → tie.After-and-at2 Inv-loop μ-loop
+second c = c .before .before .before .before
+
+abbrev third : tie.After-and-at4 Inv-loop μ-loop → tie.After-and-at3 Inv-loop μ-loop
+third c = c .before .before .before .before
+
 loop-holds : tie.Need-loop-holds Inv-loop μ-loop
-loop-holds c = along-none _ _ _ _
+loop-holds c = along-none (c .before .before .pre)
 
 four-requires : tie.Need-four-requires Inv-loop μ-loop
-four-requires c κs = (four-stand _ _ _ _ (c .before .before .before .before .pre) _ _ _ (c .before .loop .inv) (c .loop-test .taken), search needs, search needs)
+four-requires c κs = (four-stand (c .before .loop .inv) (c .loop-test .taken), search needs, search needs)
 
 and-at-requires : tie.Need-and-at-requires Inv-loop μ-loop
-and-at-requires c κs = first-gate _ _ _ _ (c .before .before .before .before .before .before .before .pre) _ _ _ (c .before .before .before .before .loop .inv) (c .before .before .before .loop-test .taken) 5 (omega arith) (omega arith) (c .before .before .four .ensures (c .before .if1 .taken))
+and-at-requires c κs = first-gate (turn (c .before))
 
 add-and-at : tie.Need-add-and-at Inv-loop μ-loop
-add-and-at c = let h = fourth-gate _ _ _ _ (c .before .before .before .before .before .before .before .before .before .before .pre) _ _ _ (c .before .before .before .before .before .before .before .loop .inv) (c .before .before .before .before .before .before .loop-test .taken) 5 (omega arith) (omega arith) (c .before .before .before .before .before .four .ensures (c .before .before .before .before .if1 .taken)) in let r = h .room in omega arith
+add-and-at c = let h = gates-room (turn (c .before .before .before .before)) in omega arith
 
 and-at-requires-2 : tie.Need-and-at-requires-2 Inv-loop μ-loop
-and-at-requires-2 c κs = gate-kept _ _ _ _ (and-long _ _ _ _ (c .before .before .before .and-at .ensures)) (second-gate _ _ _ _ (c .before .before .before .before .before .before .before .before .before .before .before .pre) _ _ _ (c .before .before .before .before .before .before .before .before .loop .inv) (c .before .before .before .before .before .before .before .loop-test .taken) 5 (omega arith) (omega arith) (c .before .before .before .before .before .before .four .ensures (c .before .before .before .before .before .if1 .taken)))
+and-at-requires-2 c κs =
+    let a = c .before .before .before in
+    second-gate (turn (a .before .before)) (a .and-at .ensures)
 
 add-and-at-2 : tie.Need-add-and-at-2 Inv-loop μ-loop
-add-and-at-2 c = let h = fourth-gate _ _ _ _ (c .before .before .before .before .before .before .before .before .before .before .before .before .before .before .pre) _ _ _ (c .before .before .before .before .before .before .before .before .before .before .before .loop .inv) (c .before .before .before .before .before .before .before .before .before .before .loop-test .taken) 5 (omega arith) (omega arith) (c .before .before .before .before .before .before .before .before .before .four .ensures (c .before .before .before .before .before .before .before .before .if1 .taken)) in let r = h .room in omega arith
+add-and-at-2 c = let h = gates-room (turn (first (c .before .before) .before .before)) in omega arith
 
 and-at-requires-3 : tie.Need-and-at-requires-3 Inv-loop μ-loop
-and-at-requires-3 c κs = gate-kept _ _ _ _ (and-long _ _ _ _ (c .before .before .before .and-at2 .ensures) ∙ and-long _ _ _ _ (c .before .before .before .before .before .before .before .and-at .ensures)) (third-gate _ _ _ _ (c .before .before .before .before .before .before .before .before .before .before .before .before .before .before .before .pre) _ _ _ (c .before .before .before .before .before .before .before .before .before .before .before .before .loop .inv) (c .before .before .before .before .before .before .before .before .before .before .before .loop-test .taken) 5 (omega arith) (omega arith) (c .before .before .before .before .before .before .before .before .before .before .four .ensures (c .before .before .before .before .before .before .before .before .before .if1 .taken)))
+and-at-requires-3 c κs =
+    let b = c .before .before .before in
+    let a = first b in
+    third-gate (turn (a .before .before)) (a .and-at .ensures) (b .and-at2 .ensures)
 
 add-and-at-3 : tie.Need-add-and-at-3 Inv-loop μ-loop
-add-and-at-3 c = let h = fourth-gate _ _ _ _ (c .before .before .before .before .before .before .before .before .before .before .before .before .before .before .before .before .before .before .pre) _ _ _ (c .before .before .before .before .before .before .before .before .before .before .before .before .before .before .before .loop .inv) (c .before .before .before .before .before .before .before .before .before .before .before .before .before .before .loop-test .taken) 5 (omega arith) (omega arith) (c .before .before .before .before .before .before .before .before .before .before .before .before .before .four .ensures (c .before .before .before .before .before .before .before .before .before .before .before .before .if1 .taken)) in let r = h .room in omega arith
+add-and-at-3 c = let h = gates-room (turn (first (second (c .before .before)) .before .before)) in omega arith
 
 and-at-requires-4 : tie.Need-and-at-requires-4 Inv-loop μ-loop
-and-at-requires-4 c κs = gate-kept _ _ _ _ (and-long _ _ _ _ (c .before .before .before .and-at3 .ensures) ∙ (and-long _ _ _ _ (c .before .before .before .before .before .before .before .and-at2 .ensures) ∙ and-long _ _ _ _ (c .before .before .before .before .before .before .before .before .before .before .before .and-at .ensures))) (fourth-gate _ _ _ _ (c .before .before .before .before .before .before .before .before .before .before .before .before .before .before .before .before .before .before .before .pre) _ _ _ (c .before .before .before .before .before .before .before .before .before .before .before .before .before .before .before .before .loop .inv) (c .before .before .before .before .before .before .before .before .before .before .before .before .before .before .before .loop-test .taken) 5 (omega arith) (omega arith) (c .before .before .before .before .before .before .before .before .before .before .before .before .before .before .four .ensures (c .before .before .before .before .before .before .before .before .before .before .before .before .before .if1 .taken)))
+and-at-requires-4 c κs =
+    let d = c .before .before .before in
+    let b = second d in
+    let a = first b in
+    fourth-gate (turn (a .before .before)) (a .and-at .ensures) (b .and-at2 .ensures) (d .and-at3 .ensures)
 
 add-at : tie.Need-add-at Inv-loop μ-loop
-add-at c = let h = fourth-gate _ _ _ _ (c .before .before .before .before .before .before .before .before .before .before .before .before .before .before .before .before .before .before .before .before .before .before .pre) _ _ _ (c .before .before .before .before .before .before .before .before .before .before .before .before .before .before .before .before .before .before .before .loop .inv) (c .before .before .before .before .before .before .before .before .before .before .before .before .before .before .before .before .before .before .loop-test .taken) 5 (omega arith) (omega arith) (c .before .before .before .before .before .before .before .before .before .before .before .before .before .before .before .before .before .four .ensures (c .before .before .before .before .before .before .before .before .before .before .before .before .before .before .before .before .if1 .taken)) in let r = h .room in omega arith
+add-at c = let h = gates-room (turn (first (second (third (c .before .before))) .before .before)) in omega arith
 
 sub-more : tie.Need-sub-more Inv-loop μ-loop
-sub-more c = let l = c .before .before .before .before .before .before .before .before .before .before .before .before .before .before .before .before .before .before .loop-test .taken in omega arith
+sub-more c = let l = turn (first (second (third (c .before .before))) .before .before) .some in omega arith
 
 loop-less : tie.Need-loop-less Inv-loop μ-loop
-loop-less c = let l = c .before .before .before .before .before .before .before .before .before .before .before .before .before .before .before .before .before .before .loop-test .taken in omega arith
+loop-less c = let l = turn (first (second (third (c .before .before))) .before .before) .some in omega arith
 
 loop-again : tie.Need-loop-again Inv-loop μ-loop
-loop-again c = four-ands _ _ _ _ (c .before .before .before .before .before .before .before .before .before .before .before .before .before .before .before .before .before .before .before .before .before .before .pre) _ _ _ (c .before .before .before .before .before .before .before .before .before .before .before .before .before .before .before .before .before .before .before .loop .inv) (c .before .before .before .before .before .before .before .before .before .before .before .before .before .before .before .before .before .before .loop-test .taken) _ _ _ _ (c .before .before .before .before .before .before .before .before .before .before .before .before .before .before .before .before .before .four .ensures (c .before .before .before .before .before .before .before .before .before .before .before .before .before .before .before .before .if1 .taken)) (c .before .before .before .before .before .before .before .before .before .before .before .before .before .before .and-at .ensures) (c .before .before .before .before .before .before .before .before .before .before .and-at2 .ensures) (c .before .before .before .before .before .before .and-at3 .ensures) (c .before .before .and-at4 .ensures)
+loop-again c =
+    let e = c .before .before in
+    let d = third e in
+    let b = second d in
+    let a = first b in
+    four-done (turn (a .before .before)) (a .and-at .ensures) (b .and-at2 .ensures) (d .and-at3 .ensures) (e .and-at4 .ensures)
 
 same-length : tie.Need-same-length Inv-loop μ-loop
 same-length c = c .before .before .before .loop .inv .long

@@ -2,7 +2,7 @@
 use borrow.Author.Needs.{needs}
 use native.Mathlib.Omega.{arith}
 use Prim.Native.Nat.{_+_}
-use Rattle.files.specs.Fields.{fieldOf}
+use Rattle.fields.specs.Fields.{fieldOf}
 use Rattle.machine.proofs.steps.field_at.Statement.{statement}
 use Rattle.machine.proofs.steps.field_at.Tie as tie
 
@@ -19,17 +19,33 @@ shared-slice-read-result-2 : tie.Need-shared-slice-read-result-2
 shared-slice-read-result-2 c = search needs
 
 cast-result-2 : tie.Need-cast-result-2
-cast-result-2 c = omega (arith, c .before .shared-slice-known .given (c .before .before .args .at), c .shared-slice-known2 .given (c .before .before .args .at + 1))
+cast-result-2 c =
+    let at = c .before .before .args .at in
+    let low = c .before .shared-slice-known .given at in
+    let high = c .shared-slice-known2 .given (at + 1) in
+    omega arith
 
 mul-result : tie.Need-mul-result
-mul-result c = omega (arith, c .before .shared-slice-known .given (c .before .before .args .at), c .shared-slice-known2 .given (c .before .before .args .at + 1))
+mul-result c =
+    let at = c .before .before .args .at in
+    let low = c .before .shared-slice-known .given at in
+    let high = c .shared-slice-known2 .given (at + 1) in
+    omega arith
 
 add-result-2 : tie.Need-add-result-2
-add-result-2 c = omega (arith, c .before .shared-slice-known .given (c .before .before .args .at), c .shared-slice-known2 .given (c .before .before .args .at + 1))
+add-result-2 c =
+    let at = c .before .before .args .at in
+    let low = c .before .shared-slice-known .given at in
+    let high = c .shared-slice-known2 .given (at + 1) in
+    omega arith
 
 returns : tie.Need-returns
 unfolding fieldOf
-returns c = (omega (arith, c .before .shared-slice-known .given (c .before .before .args .at), c .shared-slice-known2 .given (c .before .before .args .at + 1)), omega (arith, c .before .shared-slice-known .given (c .before .before .args .at), c .shared-slice-known2 .given (c .before .before .args .at + 1)))
+returns c =
+    let at = c .before .before .args .at in
+    let low = c .before .shared-slice-known .given at in
+    let high = c .shared-slice-known2 .given (at + 1) in
+    (omega arith, omega arith)
 
 pub field-at-spec : {M : Type 1} → statement M
 field-at-spec =

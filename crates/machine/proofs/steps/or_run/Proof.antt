@@ -1,9 +1,10 @@
 -- `machine::or_run` meets its contract: what is left from here ends where the whole ends. Assumes nothing.
 use borrow.Author.Needs.{needs}
-use native.Mathlib.Omega.{arith}
 use borrow.Author.Tests.{eqb-true}
-use mathlib.Core.Path.{_∙_}
-use Rattle.machine.specs.Turns.{Along, along-none, along-room, along-known, along-then, gate-or, along-or}
+use native.Mathlib.Omega.{arith}
+use mathlib.Core.Path.{sym, _∙_}
+use Rattle.machine.specs.Steps.{disjunction}
+use Rattle.machine.specs.Turns.{Along, Next, along-none, along-room, along-known, along-then, next-gate, gate-done}
 use Rattle.machine.proofs.steps.or_run.Statement.{statement}
 use Rattle.machine.proofs.steps.or_run.Tie as tie
 
@@ -13,23 +14,31 @@ Inv-loop file from steps registers₀ more₀ at₀ registers more at = Along fi
 abbrev μ-loop : tie.MeasureT-loop
 μ-loop file from steps registers₀ more₀ at₀ registers more at = more
 
+-- where the kind has been tried, a gate is next
+turn : (c : tie.Then1 Inv-loop μ-loop) → Next disjunction (c .before .before .before .loop .inv)
+turn c =
+    record {
+      some = c .before .before .loop-test .taken;
+      kind = sym (c .before .field-at .ensures .0) ∙ eqb-true _ _ (c .if1 .taken);
+    }
+
 or-fours-requires : tie.Need-or-fours-requires Inv-loop μ-loop
 or-fours-requires c κs = search needs
 
 loop-holds : tie.Need-loop-holds Inv-loop μ-loop
-loop-holds c = along-none _ _ _ _
+loop-holds c = along-none (along-known (c .before .before .or-fours .ensures))
 
 add-field-at : tie.Need-add-field-at Inv-loop μ-loop
-add-field-at c = let h = along-room _ _ _ _ _ _ _ (c .before .loop .inv) (c .loop-test .taken) (along-known _ _ _ _ _ _ _ (c .before .before .before .before .or-fours .ensures) (c .before .before .before .before .before .before .before .before .pre)) in omega arith
+add-field-at c = let h = along-room (c .before .loop .inv) (c .loop-test .taken) in omega arith
 
 field-at-requires : tie.Need-field-at-requires Inv-loop μ-loop
-field-at-requires c κs = let h = along-room _ _ _ _ _ _ _ (c .before .loop .inv) (c .loop-test .taken) (along-known _ _ _ _ _ _ _ (c .before .before .before .before .or-fours .ensures) (c .before .before .before .before .before .before .before .before .pre)) in omega arith
+field-at-requires c κs = let h = along-room (c .before .loop .inv) (c .loop-test .taken) in omega arith
 
 or-at-requires : tie.Need-or-at-requires Inv-loop μ-loop
-or-at-requires c κs = gate-or _ _ _ _ _ _ _ (c .before .before .before .before .loop .inv) (c .before .before .before .loop-test .taken) (along-known _ _ _ _ _ _ _ (c .before .before .before .before .before .before .before .or-fours .ensures) (c .before .before .before .before .before .before .before .before .before .before .before .pre)) _ (c .before .before .field-at .ensures .0) (eqb-true _ _ (c .before .if1 .taken))
+or-at-requires c κs = next-gate (turn (c .before))
 
 add-at : tie.Need-add-at Inv-loop μ-loop
-add-at c = let h = gate-or _ _ _ _ _ _ _ (c .before .before .before .before .before .before .before .loop .inv) (c .before .before .before .before .before .before .loop-test .taken) (along-known _ _ _ _ _ _ _ (c .before .before .before .before .before .before .before .before .before .before .or-fours .ensures) (c .before .before .before .before .before .before .before .before .before .before .before .before .before .before .pre)) _ (c .before .before .before .before .before .field-at .ensures .0) (eqb-true _ _ (c .before .before .before .before .if1 .taken)) in let r = h .room in omega arith
+add-at c = let h = next-gate (turn (c .before .before .before .before)) .room in omega arith
 
 sub-more : tie.Need-sub-more Inv-loop μ-loop
 sub-more c = search needs
@@ -38,19 +47,19 @@ loop-less : tie.Need-loop-less Inv-loop μ-loop
 loop-less c = search needs
 
 loop-again : tie.Need-loop-again Inv-loop μ-loop
-loop-again c = along-or _ _ _ _ _ _ _ (c .before .before .before .before .before .before .before .loop .inv) (c .before .before .before .before .before .before .loop-test .taken) (along-known _ _ _ _ _ _ _ (c .before .before .before .before .before .before .before .before .before .before .or-fours .ensures) (c .before .before .before .before .before .before .before .before .before .before .before .before .before .before .pre)) _ (c .before .before .before .before .before .field-at .ensures .0) (eqb-true _ _ (c .before .before .before .before .if1 .taken)) _ (c .before .before .or-at .ensures)
+loop-again c = gate-done (turn (c .before .before .before .before)) (c .before .before .or-at .ensures)
 
 same-length : tie.Need-same-length Inv-loop μ-loop
-same-length c = c .before .before .before .loop .inv .long ∙ c .before .before .before .before .before .before .or-fours .ensures .long
+same-length c = let l = c .before .before .before in l .loop .inv .long ∙ l .before .before .before .or-fours .ensures .long
 
 returns : tie.Need-returns Inv-loop μ-loop
-returns c = along-then _ _ _ _ _ _ _ _ _ _ (c .before .before .before .before .before .before .or-fours .ensures) (c .before .before .before .loop .inv)
+returns c = let l = c .before .before .before in along-then (l .before .before .before .or-fours .ensures) (l .loop .inv)
 
 same-length-2 : tie.Need-same-length-2 Inv-loop μ-loop
-same-length-2 c = c .before .loop .inv .long ∙ c .before .before .before .before .or-fours .ensures .long
+same-length-2 c = let l = c .before in l .loop .inv .long ∙ l .before .before .before .or-fours .ensures .long
 
 returns-2 : tie.Need-returns-2 Inv-loop μ-loop
-returns-2 c = along-then _ _ _ _ _ _ _ _ _ _ (c .before .before .before .before .or-fours .ensures) (c .before .loop .inv)
+returns-2 c = let l = c .before in along-then (l .before .before .before .or-fours .ensures) (l .loop .inv)
 
 pub or-run-spec : {M : Type 1} → statement M
 or-run-spec =

@@ -1,23 +1,27 @@
 -- `programs::store_header` meets its contract: field after field. Assumes nothing.
 use borrow.Author.Needs.{needs}
-use Rattle.programs.specs.Records.{field-after}
-use Rattle.programs.specs.Reading.{within-means}
 use native.Mathlib.Omega.{arith}
-use mathlib.Core.List.{[], _∷_}
-use mathlib.Core.Path.{refl}
-use Prim.Native.Nat.{_%_}
-use Rattle.programs.specs.Header.{headerBytes}
+use Rattle.programs.specs.Reading.{within-means, header-stored}
 use Rattle.programs.proofs.headers.store_header.Statement.{statement}
 use Rattle.programs.proofs.headers.store_header.Tie as tie
 
 cast-r : tie.Need-cast-r
-cast-r c = let w = within-means (c .before .before .args .p) (c .before .before .pre .0) in omega arith
+cast-r c =
+    let start = c .before .before in
+    let w = within-means (start .args .p) (start .pre .0) in
+    omega arith
 
 cast-i : tie.Need-cast-i
-cast-i c = let w = within-means (c .before .before .before .args .p) (c .before .before .before .pre .0) in omega arith
+cast-i c =
+    let start = c .before .before .before in
+    let w = within-means (start .args .p) (start .pre .0) in
+    omega arith
 
 cast-o : tie.Need-cast-o
-cast-o c = let w = within-means (c .before .before .before .before .args .p) (c .before .before .before .before .pre .0) in omega arith
+cast-o c =
+    let start = c .before .before .before .before in
+    let w = within-means (start .args .p) (start .pre .0) in
+    omega arith
 
 put-five-requires : tie.Need-put-five-requires
 put-five-requires c κs = search needs
@@ -38,8 +42,11 @@ same-length : tie.Need-same-length
 same-length c = search needs
 
 returns : tie.Need-returns
-unfolding headerBytes
-returns c = field-after _ _ (14 ∷ 16 ∷ c .before .before .before .before .before .before .before .before .before .before .before .before .before .before .before .before .before .before .args .p .registers ∷ c .before .before .before .before .before .before .before .before .before .before .before .before .before .before .before .before .before .before .args .p .inputs ∷ c .before .before .before .before .before .before .before .before .before .before .before .before .before .before .before .before .before .before .args .p .outputs ∷ c .before .before .before .before .before .before .before .before .before .before .before .before .before .before .before .before .before .before .args .p .count % 65536 ∷ []) _ _ _ _ refl (c .before .before .before .before .before .before .before .before .before .before .before .before .before .before .before .before .before .before .pre .1) (field-after _ _ (14 ∷ 16 ∷ c .before .before .before .before .before .before .before .before .before .before .before .before .before .before .before .before .before .before .args .p .registers ∷ c .before .before .before .before .before .before .before .before .before .before .before .before .before .before .before .before .before .before .args .p .inputs ∷ c .before .before .before .before .before .before .before .before .before .before .before .before .before .before .before .before .before .before .args .p .outputs ∷ []) _ _ _ _ refl (omega arith) (c .before .before .before .before .before .before .before .before .before .before .before .before .put-five .ensures) (c .before .before .before .before .before .before .before .put .ensures)) (c .before .before .put2 .ensures)
+returns c =
+    let high = c .before .before in
+    let low = high .before .before .before .before .before in
+    let five = low .before .before .before .before .before in
+    header-stored _ _ _ _ _ (five .put-five .ensures) (low .put .ensures) (high .put2 .ensures) (search needs)
 
 pub store-header-spec : {M : Type 1} → statement M
 store-header-spec =

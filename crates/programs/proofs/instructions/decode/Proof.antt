@@ -1,9 +1,6 @@
 -- `programs::decode` meets its contract. Assumes nothing.
 use borrow.Author.Needs.{needs}
 use Rattle.programs.specs.Reading.{decode-beyond, decode-part}
-use native.Mathlib.Omega.{arith}
-use Prim.Native.Nat.{_-_}
-use lib.ListN.{length}
 use Rattle.programs.proofs.instructions.decode.Statement.{statement}
 use Rattle.programs.proofs.instructions.decode.Tie as tie
 
@@ -23,7 +20,7 @@ front-requires : tie.Need-front-requires
 front-requires c κs = search needs
 
 returns-2 : tie.Need-returns-2
-returns-2 c = decode-part _ _ (length (c .before .before .before .before .args .file .now) - c .before .before .before .before .args .at) (omega arith) _ (c .front .ensures)
+returns-2 c = decode-part _ _ _ (c .front .ensures)
 
 pub decode-spec : {M : Type 1} → statement M
 decode-spec =

@@ -13,7 +13,10 @@ among-requires-3 : tie.Need-among-requires-3
 among-requires-3 c κs = search needs
 
 returns : tie.Need-returns
-returns c = cc
+returns c =
+    let outputs = c .before in
+    let inputs = outputs .before in
+    rw (inputs .before .among .ensures, inputs .among2 .ensures, outputs .among3 .ensures)
 
 pub within-spec : {M : Type 1} → statement M
 within-spec = tie.close (tie.spec among-requires among-requires-2 among-requires-3 returns)

@@ -1,0 +1,143 @@
+-- The turns of a check that marks what it has seen: what is left from here is answered as the whole is. Assumes nothing.
+use Prim.Native.Nat.{ℕ, zero, suc, _+_, _-_, _≤_, _<_}
+use mathlib.Core.Path.{_≡_, refl, sym, _∙_, fun-ext}
+use mathlib.Core.Bool.{Bool, true, false, not}
+use mathlib.Core.List.{List}
+use native.Mathlib.Omega.{arith}
+use lib.ListN.{length, getD, drop, replicate, length-replicate}
+use Rattle.laws.specs.Sums.{any, any-more, any-found}
+use Rattle.laws.specs.Outcome.{Outcome, refused, gives, refuse, _>>_, _>>=_, mapped, bound, gives-inj}
+use Rattle.programs.specs.Limits.{most-registers, most-outputs, within, unwritten, unset}
+use Rattle.programs.specs.Instructions.{uses, lengthOf}
+use Rattle.programs.specs.Header.{header-length, headerOf}
+use Rattle.programs.specs.Reading.{within-means}
+use Rattle.programs.specs.Inverse.{header-reads}
+use Rattle.programs.specs.declared.description.Program.{Program}
+use Rattle.programs.specs.declared.description.Instruction.{Instruction}
+use Rattle.checker.specs.Checks.{Code, instructionOf, codeOf, nothing, checkOf}
+use Rattle.checker.specs.Operands.{flagged, Flags, admit-room}
+use Rattle.checker.specs.GateRuns.{restOf, Passes, mapped-after, rest-more, rest-refused, rest-left, rest-unset, rest-done}
+
+-- whether one of the first flags is missing, tried flag by flag
+module _ (s : List Bool) where
+  pub missing-found : (n o : ℕ) → o < n → not (getD s o false) ≡ true → true ≡ any n (λ k. not (flagged s k))
+  unfolding flagged
+  missing-found n o l e = sym (any-found n o (λ k. not (flagged s k)) l e)
+
+  pub missing-more : (o : ℕ) → not (getD s o false) ≡ false → any o (λ k. not (flagged s k)) ≡ false →
+      any (o + 1) (λ k. not (flagged s k)) ≡ false
+  unfolding flagged
+  missing-more o e q = any-more o (λ k. not (flagged s k)) e q
+
+-- ---- the whole body
+pub record Checking (file : List ℕ) (p : Program) (n at : ℕ) (w s : List Bool) : Type 0 where
+  pub same : restOf file p (flagged w) (flagged s) n at ≡ restOf file p nothing nothing (p .count) header-length
+  pub inside : at ≤ length file
+  pub long : length w ≡ most-registers
+  pub wide : length s ≡ most-outputs
+
+fresh-flags : (n : ℕ) → flagged (replicate n false) ≡ nothing
+unfolding flagged
+fresh-flags n = fun-ext (λ r. by n r)
+  where
+    by : (n r : ℕ) → getD (replicate n false) r false ≡ false
+    by zero r = refl
+    by (suc n) zero = refl
+    by (suc n) (suc r) = by n r
+
+module _ (file : List ℕ) (p : Program) where
+  pub checking-none : (n : ℕ) (w s : List Bool) → n ≡ p .count → header-length ≤ length file → w ≡ unwritten → s ≡ unset →
+      Checking file p n header-length w s
+  unfolding unwritten unset
+  checking-none n w s q h e f =
+      record {
+        same = rw (q, e, f, fresh-flags most-registers, fresh-flags most-outputs);
+        inside = h;
+        long = rw e (length-replicate most-registers false);
+        wide = rw f (length-replicate most-outputs false);
+      }
+
+  module _ (n at : ℕ) (w s : List Bool) (g : Checking file p n at w s) where
+    module _ (i : Instruction) (reads : gives i ≡ instructionOf p (flagged w) (drop at file)) where
+      checking-suc : (m : ℕ) → n ≡ suc m → (w′ s′ : List Bool) → Flags (uses i .writes) w w′ → Flags (uses i .sets) s s′ →
+          Checking file p m (at + lengthOf i) w′ s′
+      checking-suc m q w′ s′ a b =
+          record {
+            same = rw (a .now-flagged, b .now-flagged)
+                (sym (rest-more file p (flagged w) (flagged s) m at i (sym reads)) ∙ rw q at (g .same));
+            inside = admit-room file at p (flagged w) i reads;
+            long = a .long ∙ g .long;
+            wide = b .long ∙ g .wide;
+          }
+
+      -- the turn of a loop: this instruction, its marks, and the gates behind it
+      module _ (l : 0 < n) (len : ℕ) (is-len : len ≡ lengthOf i) (w′ s′ : List Bool) (a : Flags (uses i .writes) w w′)
+          (b : Flags (uses i .sets) s s′) where
+        behind : Checking file p (n - 1) (at + len) w′ s′
+        behind = rw is-len (checking-suc (n - 1) (omega arith) w′ s′ a b)
+
+        pub turn-ready : within p ≡ true → (p .registers ≤ most-registers) × (length w′ ≡ most-registers) × (at + len ≤ length file)
+        turn-ready v = (within-means p v .few-registers, behind .long, behind .inside)
+
+        pub turn-done : (n′ at′ : ℕ) (w″ : List Bool) → Passes file (p .registers) (n - 1) (at + len) w′ n′ at′ w″ →
+            Checking file p n′ at′ w″ s′
+        turn-done n′ at′ w″ q =
+            record {
+              same = q .same p refl (flagged s′) ∙ behind .same;
+              inside = q .inside;
+              long = q .long ∙ behind .long;
+              wide = behind .wide;
+            }
+
+    pub checking-refused : 0 < n → (k : ℕ) → refused k ≡ instructionOf p (flagged w) (drop at file) →
+        refused k ≡ restOf file p nothing nothing (p .count) header-length
+    checking-refused l k e =
+        let q : n ≡ suc (n - 1) = omega arith in
+        sym (rest-refused file p (flagged w) (flagged s) (n - 1) at k (sym e)) ∙ rw q at (g .same)
+
+    module _ (z : n ≤ 0) where
+      at-end : restOf file p (flagged w) (flagged s) 0 at ≡ restOf file p nothing nothing (p .count) header-length
+      at-end =
+          let q : n ≡ 0 = omega arith in
+          rw q at (g .same)
+
+      pub checking-left : at < length file → refused 4 ≡ restOf file p nothing nothing (p .count) header-length
+      checking-left h = sym (rest-left file p (flagged w) (flagged s) at h) ∙ at-end
+
+      pub checking-unset : length file ≤ at → any (p .outputs) (λ o. not (flagged s o)) ≡ true →
+          refused 10 ≡ restOf file p nothing nothing (p .count) header-length
+      checking-unset h e = sym (rest-unset file p (flagged w) (flagged s) at h e) ∙ at-end
+
+      pub checking-done : length file ≤ at → any (p .outputs) (λ o. not (flagged s o)) ≡ false →
+          gives p ≡ restOf file p nothing nothing (p .count) header-length
+      checking-done h e = sym (rest-done file p (flagged w) (flagged s) at h e) ∙ at-end
+
+-- ---- header, then body
+module _ (file : List ℕ) where
+  pub check-refused : (k : ℕ) → refused k ≡ headerOf file → refused k ≡ mapped (λ c. c .program) (checkOf file)
+  unfolding checkOf
+  check-refused k e = rw (← e)
+
+  module _ (p : Program) (e : gives p ≡ headerOf file) where
+    pub check-ready : (within p ≡ true) × (header-length ≤ length file)
+    check-ready =
+        let r = header-reads file p (sym e) in
+        (r .inside, r .room)
+
+    pub check-body : (o : Outcome Program) → o ≡ restOf file p nothing nothing (p .count) header-length →
+        o ≡ mapped (λ c. c .program) (checkOf file)
+    unfolding checkOf restOf
+    check-body o q =
+        q ∙ (sym (mapped-after p (λ (c : Code). c .program) (λ (is : List Instruction). record { program = p; instructions = is })
+        (λ is. refl) (codeOf (p .count) p nothing nothing (drop header-length file))) ∙ rw (← e))
+
+-- what a check that has passed says: header, then instructions
+pub check-says : (file : List ℕ) (c : Code) → checkOf file ≡ gives c →
+    (headerOf file ≡ gives (c .program)) ×
+    (codeOf (c .program .count) (c .program) nothing nothing (drop header-length file) ≡ gives (c .instructions))
+unfolding checkOf
+check-says file c e =
+    let c1 = bound (headerOf file) _ c e in
+    let c2 = bound (codeOf (c1 .0 .count) (c1 .0) nothing nothing (drop header-length file)) _ c (c1 .2) in
+    let same = gives-inj (c2 .2) in
+    rw (← same) (c1 .1, c2 .1)

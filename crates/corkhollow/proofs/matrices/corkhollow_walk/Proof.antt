@@ -1,0 +1,48 @@
+-- `corkhollow::corkhollow_walk` meets its contract. Assumes nothing.
+use mathlib.Core.Path.{refl}
+use borrow.Author.Needs.{needs}
+use Rattle.walk.specs.Walk.{walked}
+use Rattle.corkhollow.specs.Telling.{walks}
+use Rattle.corkhollow.proofs.matrices.corkhollow_walk.Statement.{statement}
+use Rattle.corkhollow.proofs.matrices.corkhollow_walk.Tie as tie
+
+walk-requires : tie.Need-walk-requires
+walk-requires c κs = search needs
+
+enum-known-why : tie.Need-enum-known-why
+enum-known-why c = search needs
+
+number-requires : tie.Need-number-requires
+number-requires c κs = search needs
+
+enum-known-v : tie.Need-enum-known-v
+enum-known-v c = search needs
+
+enum-told : tie.Need-enum-told
+enum-told c = search needs
+
+cast-row : tie.Need-cast-row
+cast-row c = search needs
+
+returns : tie.Need-returns
+returns c = walks walked _ _ (c .before .before .why .given .1) (search) (c .number .ensures) refl
+
+returns-2 : tie.Need-returns-2
+returns-2 c = walks walked _ _ (c .before .v .given .1) (search) refl refl
+
+returns-3 : tie.Need-returns-3
+returns-3 c = walks walked _ _ (c .enum-told .given .1) (search) refl refl
+
+pub corkhollow-walk-spec : {M : Type 1} → statement M
+corkhollow-walk-spec =
+    tie.close
+    (tie.spec
+    walk-requires
+    enum-known-why
+    number-requires
+    enum-known-v
+    enum-told
+    cast-row
+    returns
+    returns-2
+    returns-3)

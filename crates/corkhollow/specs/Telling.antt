@@ -1,0 +1,104 @@
+-- What a call makes of an operation's answer is what its contract says of the operation's outcome. Assumes nothing.
+use Prim.Native.Nat.{ℕ}
+use mathlib.Core.Path.{_≡_}
+use mathlib.Core.Bool.{Bool}
+use mathlib.Core.List.{List}
+use lib.ListN
+use Rattle.laws.specs.Outcome.{Outcome, refused, gives, mapped}
+use Rattle.files.specs.Matrix.{Matrix, Sizes, sizes}
+use Rattle.walk.specs.Walk.{Answer, answerOf}
+use Rattle.walk.specs.declared.Drawn.{Drawn}
+use Rattle.programs.specs.declared.description.Program.{Program}
+use Rattle.machine.specs.declared.runs.Run.{Run}
+use Rattle.checker.specs.Checks.{Code}
+use Rattle.machine.specs.Runs.{Ended}
+use Rattle.lanes.specs.Samples.{code}
+use Rattle.corkhollow.specs.Calls.{returned, told, positionOf, countOf, finishedOf}
+
+-- ---- what is returned and told of an answer in 01's numbers, as the code of a call has it
+abbrev Returns : {A : Type 0} → Outcome A → ℕ → Type 0
+Returns (refused n) r = r ≡ n
+Returns (gives a) r = r ≡ 0
+
+abbrev Tells : {A B : Type 0} → (A → B) → Outcome A → B → B → Type 0
+Tells part (refused n) old new = new ≡ old
+Tells part (gives a) old new = new ≡ part a
+
+-- An operation answers x, which is the case y. In 01's numbers, `say x`, it is a part of the outcome o: what a call makes of it, it
+-- makes of o.
+module _ {X A B : Type 0} (say : X → Outcome B) (f : A → B) where
+  returns-of : (o : Outcome A) {x y : X} {r : ℕ} → x ≡ y → say x ≡ mapped f o → Returns (say y) r → r ≡ returned o
+  unfolding returned
+  returns-of (refused n) c e a = rw (← c, e) at a
+  returns-of (gives b) c e a = rw (← c, e) at a
+
+  tells-of : {C : Type 0} (part : B → C) (o : Outcome A) {x y : X} {new : C} (old : C) → x ≡ y → say x ≡ mapped f o →
+      Tells part (say y) old new → new ≡ told (λ a. part (f a)) o old
+  unfolding told
+  tells-of part (refused n) old c e a = rw (← c, e) at a
+  tells-of part (gives b) old c e a = rw (← c, e) at a
+
+-- ---- the functions by what they tell; P and Q are what the operation's contract says of the buffers
+-- a result is laid down, and nothing told
+pub lays : {X A B P : Type 0} (say : X → Outcome B) (f : A → B) (o : Outcome A) {x y : X} {r : ℕ} → x ≡ y → (say x ≡ mapped f o) × P →
+    Returns (say y) r → (r ≡ returned o) × P
+lays say f o c p a = (returns-of say f o c (p .0) a, p .1)
+
+-- a file is written, and its length told
+pub writes : {X P : Type 0} (say : X → Outcome ℕ) (o : Outcome (List ℕ)) {x y : X} {r length′ : ℕ} (length : ℕ) → x ≡ y →
+    (say x ≡ mapped ListN.length o) × P → Returns (say y) r → Tells (λ n. n) (say y) length length′ →
+    (r ≡ returned o) × P × (length′ ≡ told ListN.length o length)
+writes say o length c p a t =
+    let f : List ℕ → ℕ = ListN.length in
+    (returns-of say f o c (p .0) a, p .1, tells-of say f (λ n. n) o length c (p .0) t)
+
+-- a matrix is read, and its sizes told
+pub reads : {X P : Type 0} (say : X → Outcome Sizes) (o : Outcome Matrix) {x y : X} {r rows′ columns′ : ℕ} (rows columns : ℕ) → x ≡ y →
+    (say x ≡ mapped sizes o) × P → Returns (say y) r → Tells (λ s. s .rows) (say y) rows rows′ →
+    Tells (λ s. s .columns) (say y) columns columns′ →
+    (r ≡ returned o) × P × (rows′ ≡ told (λ M. M .rows) o rows) × (columns′ ≡ told (λ M. M .columns) o columns)
+reads say o rows columns c p a s t = (
+  returns-of say sizes o c (p .0) a,
+  p .1,
+  tells-of say sizes (λ s. s .rows) o rows c (p .0) s,
+  tells-of say sizes (λ s. s .columns) o columns c (p .0) t,
+)
+
+-- a matrix is walked, and the row told
+pub walks : {X : Type 0} (say : X → Outcome Answer) (o : Outcome Drawn) {x y : X} {r row′ : ℕ} (row : ℕ) → x ≡ y →
+    say x ≡ mapped answerOf o → Returns (say y) r → Tells code (say y) row row′ →
+    (r ≡ returned o) × (row′ ≡ told (λ d. code (answerOf d)) o row)
+walks say o row c e a t = (returns-of say answerOf o c e a, tells-of say answerOf code o row c e t)
+
+-- a program is checked, and its header told
+pub checks : {X : Type 0} (say : X → Outcome Program) (o : Outcome Code) {x y : X} {r registers′ inputs′ outputs′ count′ : ℕ}
+    (registers inputs outputs count : ℕ) → x ≡ y → say x ≡ mapped (λ c. c .program) o → Returns (say y) r →
+    Tells (λ p. p .registers) (say y) registers registers′ → Tells (λ p. p .inputs) (say y) inputs inputs′ →
+    Tells (λ p. p .outputs) (say y) outputs outputs′ → Tells (λ p. p .count) (say y) count count′ →
+    (r ≡ returned o) × (registers′ ≡ told (λ c. c .program .registers) o registers) × (inputs′ ≡ told (λ c. c .program .inputs) o inputs) ×
+    (outputs′ ≡ told (λ c. c .program .outputs) o outputs) × (count′ ≡ told (λ c. c .program .count) o count)
+checks say o registers inputs outputs count c e a t u v w =
+    let f : Code → Program = λ c. c .program in (
+      returns-of say f o c e a,
+      tells-of say f (λ p. p .registers) o registers c e t,
+      tells-of say f (λ p. p .inputs) o inputs c e u,
+      tells-of say f (λ p. p .outputs) o outputs c e v,
+      tells-of say f (λ p. p .count) o count c e w,
+    )
+
+-- a program is run, and the answer told
+pub runs : {X P Q : Type 0} (say : X → Outcome Run) (o : Outcome (Ended ℕ)) {x y : X} {r position′ count′ : ℕ} {finished′ : Bool}
+    (position count : ℕ) (finished : Bool) → x ≡ y → say x ≡ mapped (λ e. e .answer) o → P → Q → Returns (say y) r →
+    Tells (λ a. a .position) (say y) position position′ → Tells (λ a. a .count) (say y) count count′ →
+    Tells (λ a. a .finished) (say y) finished finished′ →
+    (r ≡ returned o) × P × Q × (position′ ≡ told positionOf o position) × (count′ ≡ told countOf o count) ×
+    (finished′ ≡ told finishedOf o finished)
+runs say o position count finished c e p q a t u v =
+    let f : Ended ℕ → Run = λ e. e .answer in (
+      returns-of say f o c e a,
+      p,
+      q,
+      tells-of say f (λ a. a .position) o position c e t,
+      tells-of say f (λ a. a .count) o count c e u,
+      tells-of say f (λ a. a .finished) o finished c e v,
+    )

@@ -1,0 +1,108 @@
+-- `files::read_header` meets its contract: each return is a way through the checks. Assumes nothing.
+use borrow.Author.Needs.{needs}
+use mathlib.Core.Path.{sym, _∙_}
+use Rattle.files.specs.Checks.{header-short, header-cut, header-kind, header-sizes, header-length, header-left, header-gives}
+use Rattle.files.proofs.headers.read_header.Statement.{statement}
+use Rattle.files.proofs.headers.read_header.Tie as tie
+
+returns : tie.Need-returns
+returns c = header-short _ (c .if1 .taken)
+
+field-requires : tie.Need-field-requires
+field-requires c κs = search needs
+
+returns-2 : tie.Need-returns-2
+returns-2 c =
+    let long = c .before in
+    header-cut _ (long .before .if1 .left) (rw (long .field .ensures .0) at (c .if2 .taken))
+
+field-requires-2 : tie.Need-field-requires-2
+field-requires-2 c κs = search needs
+
+returns-3 : tie.Need-returns-3
+returns-3 c =
+    let there = c .before .before in
+    let long = there .before in
+    header-kind _ (long .before .if1 .left) (rw (long .field .ensures .0) at (there .if2 .left))
+    (λ e. c .if3 .taken (c .before .field2 .ensures .0 ∙ e))
+
+field-requires-3 : tie.Need-field-requires-3
+field-requires-3 c κs = search needs
+
+field-requires-4 : tie.Need-field-requires-4
+field-requires-4 c κs = search needs
+
+sizes-outside-requires : tie.Need-sizes-outside-requires
+sizes-outside-requires c κs = search needs
+
+returns-4 : tie.Need-returns-4
+returns-4 c =
+    let sizes = c .before in
+    let n = sizes .before in
+    let kind = n .before .before in
+    let there = kind .before .before in
+    let long = there .before in
+    header-sizes _ (long .before .if1 .left) (rw (long .field .ensures .0) at (there .if2 .left))
+    (sym (kind .before .field2 .ensures .0) ∙ kind .if3 .left) _ _ (n .before .field3 .ensures .0) (n .field4 .ensures .0)
+    (sym (sizes .sizes-outside .ensures) ∙ c .if4 .taken)
+
+file-length-requires : tie.Need-file-length-requires
+file-length-requires c κs = sym (c .before .sizes-outside .ensures) ∙ c .if4 .left
+
+returns-5 : tie.Need-returns-5
+returns-5 c =
+    let sized = c .before .before in
+    let n = sized .before .before in
+    let kind = n .before .before in
+    let there = kind .before .before in
+    let long = there .before in
+    header-length _ (long .before .if1 .left) (rw (long .field .ensures .0) at (there .if2 .left))
+    (sym (kind .before .field2 .ensures .0) ∙ kind .if3 .left) _ _ (n .before .field3 .ensures .0) (n .field4 .ensures .0)
+    (sym (sized .before .sizes-outside .ensures) ∙ sized .if4 .left)
+    (λ e. c .if5 .taken (long .field .ensures .0 ∙ (e ∙ sym (c .before .file-length .ensures .0))))
+
+returns-6 : tie.Need-returns-6
+returns-6 c =
+    let right = c .before in
+    let sized = right .before .before in
+    let n = sized .before .before in
+    let kind = n .before .before in
+    let there = kind .before .before in
+    let long = there .before in
+    header-left _ (long .before .if1 .left) (rw (long .field .ensures .0) at (there .if2 .left))
+    (sym (kind .before .field2 .ensures .0) ∙ kind .if3 .left) _ _ (n .before .field3 .ensures .0) (n .field4 .ensures .0)
+    (sym (sized .before .sizes-outside .ensures) ∙ sized .if4 .left)
+    (sym (long .field .ensures .0) ∙ (right .if5 .left ∙ right .before .file-length .ensures .0))
+    (λ e. c .if6 .taken (e ∙ sym (long .field .ensures .0)))
+
+returns-7 : tie.Need-returns-7
+returns-7 c =
+    let right = c .before in
+    let sized = right .before .before in
+    let n = sized .before .before in
+    let kind = n .before .before in
+    let there = kind .before .before in
+    let long = there .before in
+    header-gives _ (long .before .if1 .left) (rw (long .field .ensures .0) at (there .if2 .left))
+    (sym (kind .before .field2 .ensures .0) ∙ kind .if3 .left) _ _ (n .before .field3 .ensures .0) (n .field4 .ensures .0)
+    (sym (sized .before .sizes-outside .ensures) ∙ sized .if4 .left)
+    (sym (long .field .ensures .0) ∙ (right .if5 .left ∙ right .before .file-length .ensures .0))
+    (c .if6 .left ∙ long .field .ensures .0)
+
+pub read-header-spec : {M : Type 1} → statement M
+read-header-spec =
+    tie.close
+    (tie.spec
+    returns
+    field-requires
+    returns-2
+    field-requires-2
+    returns-3
+    field-requires-3
+    field-requires-4
+    sizes-outside-requires
+    returns-4
+    file-length-requires
+    returns-5
+    returns-6
+    returns-7)

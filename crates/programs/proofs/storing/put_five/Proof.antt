@@ -1,0 +1,30 @@
+-- `programs::put_five` meets its contract: field after field. Assumes nothing.
+use borrow.Author.Needs.{needs}
+use Rattle.programs.specs.Records.{field-after}
+use native.Mathlib.Omega.{arith}
+use mathlib.Core.List.{[], _∷_}
+use mathlib.Core.Path.{refl}
+use Rattle.programs.proofs.storing.put_five.Statement.{statement}
+use Rattle.programs.proofs.storing.put_five.Tie as tie
+
+put-four-requires : tie.Need-put-four-requires
+put-four-requires c κs = search needs
+
+add-put : tie.Need-add-put
+add-put c = search needs
+
+put-requires : tie.Need-put-requires
+put-requires c κs = search needs
+
+same-length : tie.Need-same-length
+same-length c = search needs
+
+returns : tie.Need-returns
+returns c =
+    let last = c .before .before in
+    let first = last .before .before .before .before in
+    let a = first .before .before .before .args in
+    field-after _ _ _ (a .x ∷ a .y ∷ a .z ∷ a .u ∷ []) _ _ _ _ (first .put-four .ensures) (last .put .ensures) refl refl (omega arith)
+
+pub put-five-spec : {M : Type 1} → statement M
+put-five-spec = tie.close (tie.spec put-four-requires add-put put-requires same-length returns)

@@ -1,0 +1,88 @@
+-- `weights::build` meets its contract: each return is a way through the checks; the last lays rows behind the header. Assumes nothing.
+use borrow.Author.Needs.{needs}
+use mathlib.Core.Path.{refl, sym, _∙_}
+use lib.ListN.{length}
+use Rattle.laws.specs.Outcome.{ends-refused}
+use Rattle.files.specs.Sizes.{sizes-within}
+use Rattle.files.specs.Writing.{head-room}
+use Rattle.weights.specs.Building.{build-sizes, build-zero, build-unheaded, build-headed}
+use Rattle.weights.proofs.building.build.Statement.{statement}
+use Rattle.weights.proofs.building.build.Tie as tie
+
+sizes-outside-requires : tie.Need-sizes-outside-requires
+sizes-outside-requires c κs = search needs
+
+returns : tie.Need-returns
+returns c = ends-refused _ _ _ _ _ (build-sizes _ _ _ _ (sym (c .before .sizes-outside .ensures) ∙ c .if1 .taken))
+
+sum-of-requires : tie.Need-sum-of-requires
+sum-of-requires c κs =
+    let s = c .before .before .before .before .args in
+    sizes-within (length (s .weights .now)) (s .columns) (sym (c .before .sizes-outside .ensures) ∙ c .if1 .left) .few-rows
+
+returns-2 : tie.Need-returns-2
+returns-2 c =
+    let sized = c .before .before in
+    ends-refused _ _ _ _ _
+    (build-zero _ _ _ _ (sym (sized .before .sizes-outside .ensures) ∙ sized .if1 .left)
+    (sym (c .before .sum-of .ensures .0) ∙ c .if2 .taken))
+
+write-header-requires : tie.Need-write-header-requires
+write-header-requires c κs = search needs
+
+enum-known-why : tie.Need-enum-known-why
+enum-known-why c = search needs
+
+enum-known-length : tie.Need-enum-known-length
+enum-known-length c = search needs
+
+divide-rows-requires : tie.Need-divide-rows-requires
+divide-rows-requires c κs =
+    let wrote = c .before .before .before .before .before .before in
+    let sum = wrote .before .before .before in
+    let file = sum .before .before .before .before .before .args .file .now in
+    let head = head-room _ _ _ _ file _ refl (rw (c .before .before .length .given .1) at (wrote .write-header .ensures)) in
+    (sum .sum-of .ensures .0, sum .sum-of .ensures .1, head .1)
+
+same-length : tie.Need-same-length
+same-length c = search needs
+
+returns-3 : tie.Need-returns-3
+returns-3 c =
+    let wrote = c .before .before .before .before .before in
+    let some = wrote .before .before in
+    let sized = some .before .before in
+    build-unheaded _ _ _ _ (sized .before .before .before .before .args .file .now) refl
+    (sym (sized .before .sizes-outside .ensures) ∙ sized .if1 .left) (λ z. some .if2 .left (some .before .sum-of .ensures .0 ∙ z)) _ _
+    (rw (c .before .why .given .1) at (wrote .write-header .ensures))
+
+same-length-2 : tie.Need-same-length-2
+same-length-2 c = search needs
+
+returns-4 : tie.Need-returns-4
+returns-4 c =
+    let wrote = c .before .before .before .before .before .before .before .before .before in
+    let some = wrote .before .before in
+    let sized = some .before .before in
+    build-headed _ _ _ _ (sized .before .before .before .before .args .file .now) refl
+    (sym (sized .before .sizes-outside .ensures) ∙ sized .if1 .left) (λ z. some .if2 .left (some .before .sum-of .ensures .0 ∙ z)) _ _ _ _
+    (some .before .sum-of .ensures .0)
+    (rw (c .before .before .before .before .before .length .given .1) at (wrote .write-header .ensures))
+    (c .before .before .divide-rows .ensures)
+
+pub build-spec : {M : Type 1} → statement M
+build-spec =
+    tie.close
+    (tie.spec
+    sizes-outside-requires
+    returns
+    sum-of-requires
+    returns-2
+    write-header-requires
+    enum-known-why
+    enum-known-length
+    divide-rows-requires
+    same-length
+    returns-3
+    same-length-2
+    returns-4)

@@ -1,0 +1,104 @@
+-- `weights::divide_rows` meets its contract: v rows are laid. Assumes nothing.
+use borrow.Author.Needs.{needs}
+use native.Mathlib.Omega.{arith}
+use mathlib.Core.Path.{_≡_, ap}
+use Prim.Native.Nat.{ℕ, _+_, _-_, _*_, _≤_}
+use lib.ListN.{length, getD}
+use Rattle.laws.specs.Lists.{blocks}
+use Rattle.laws.specs.Lay.{Laid, blocks-none, laid-block, blocks-done}
+use Rattle.fields.specs.Fields.{packed, length-packed, width}
+use Rattle.files.specs.Sizes.{row-place}
+use Rattle.weights.specs.Weights.{counted, quotient}
+use Rattle.weights.specs.Building.{counted-le}
+use Rattle.weights.proofs.building.divide_rows.Statement.{statement}
+use Rattle.weights.proofs.building.divide_rows.Tie as tie
+
+abbrev Inv-loop : tie.InvT-loop
+Inv-loop usage weights s n file₀ bytes v₀ v-end file v =
+    (v ≤ length weights) × (bytes ≡ width n) ×
+    Laid 8 (blocks v (λ v. packed n (quotient s (counted usage v (getD weights v 0))))) file₀ file
+
+abbrev μ-loop : tie.MeasureT-loop
+μ-loop usage weights s n file₀ bytes v₀ v-end file v = length weights - v
+
+width-requires : tie.Need-width-requires Inv-loop μ-loop
+width-requires c κs = search needs
+
+loop-holds : tie.Need-loop-holds Inv-loop μ-loop
+loop-holds c = (search needs, search needs, blocks-none _ _ _)
+
+mul-counted-weight : tie.Need-mul-counted-weight Inv-loop μ-loop
+mul-counted-weight c = search needs
+
+shared-slice-read-counted-weight : tie.Need-shared-slice-read-counted-weight Inv-loop μ-loop
+shared-slice-read-counted-weight c = search needs
+
+counted-weight-requires : tie.Need-counted-weight-requires Inv-loop μ-loop
+counted-weight-requires c κs = search needs
+
+mul-divide-row : tie.Need-mul-divide-row Inv-loop μ-loop
+mul-divide-row c =
+    let turn = c .before .before .before in
+    let s = turn .before .before .before .before .before in
+    record { fits = omega (arith, row-place _ _ _ _ _ (turn .loop-test .taken) (turn .before .loop .inv .1) (s .pre .2)) }
+
+add-divide-row : tie.Need-add-divide-row Inv-loop μ-loop
+add-divide-row c =
+    let turn = c .before .before .before in
+    let s = turn .before .before .before .before .before in
+    record { fits = omega (arith, row-place _ _ _ _ _ (turn .loop-test .taken) (turn .before .loop .inv .1) (s .pre .2)) }
+
+divide-row-requires : tie.Need-divide-row-requires Inv-loop μ-loop
+divide-row-requires c κs =
+    let turn = c .before .before .before in
+    let at = turn .before .loop in
+    let s = turn .before .before .before .before .before in (
+      rw (c .before .counted-weight .ensures, s .pre .0) (counted-le _ _ 0 _ (turn .loop-test .taken)),
+      search needs,
+      omega (arith, row-place _ _ _ _ _ (turn .loop-test .taken) (at .inv .1) (s .pre .2), at .inv .2 .long),
+    )
+
+add-v : tie.Need-add-v Inv-loop μ-loop
+add-v c = search needs
+
+loop-less : tie.Need-loop-less Inv-loop μ-loop
+loop-less c = search needs
+
+loop-again : tie.Need-loop-again Inv-loop μ-loop
+loop-again c =
+    let counted = c .before .before .before .before in
+    let turn = counted .before .before in
+    let at = turn .before .loop in
+    let s = turn .before .before .before .before .before in
+    let room = row-place _ _ _ _ _ (turn .loop-test .taken) (at .inv .1) (s .pre .2) in (
+      search needs,
+      search needs,
+      laid-block _ _ _ _ _ _ _ _ (λ v. length-packed _ _) (ap (λ (w : ℕ). 8 + at .v * w) (at .inv .1)) room
+          (rw (counted .counted-weight .ensures) at (c .before .before .divide-row .ensures)) (at .inv .2),
+    )
+
+same-length : tie.Need-same-length Inv-loop μ-loop
+same-length c = c .before .loop .inv .2 .long
+
+returns : tie.Need-returns Inv-loop μ-loop
+returns c = blocks-done _ _ _ _ _ _ (c .before .loop .inv .0) (c .loop-test .left) (c .before .loop .inv .2)
+
+pub divide-rows-spec : {M : Type 1} → statement M
+divide-rows-spec =
+    tie.close
+    (tie.spec
+    Inv-loop
+    μ-loop
+    width-requires
+    loop-holds
+    mul-counted-weight
+    shared-slice-read-counted-weight
+    counted-weight-requires
+    mul-divide-row
+    add-divide-row
+    divide-row-requires
+    add-v
+    loop-less
+    loop-again
+    same-length
+    returns)

@@ -1,0 +1,148 @@
+-- The ways through the checks of weights, and what is built: an accepted matrix whose rows are the shares. Assumes nothing.
+use Prim.Native.Nat.{ℕ, _+_, _*_, _^_, _≤_, _<_}
+use mathlib.Core.Path.{_≡_, refl, sym, ap, _∙_}
+use mathlib.Core.Bool.{true, false}
+use mathlib.Core.List.{List}
+use native.Mathlib.Omega.{arith}
+use native.Mathlib.Nat.{le-of-mul-le-mul-right, mul-comm}
+use borrow.Author.Tests.{eq-eqb, ne-eqb, eqb-false}
+use lib.Dec.{eqb, ltb}
+use lib.ListN.{length, getD}
+use Rattle.laws.specs.Sums.{sumTo, sum-eq, sum-mono, sum-times, term-le}
+use Rattle.laws.specs.Digits.{number-shift, number-digit, digit, digit-le}
+use Rattle.laws.specs.Lists.{blocks}
+use Rattle.laws.specs.Lay.{layAt}
+use Rattle.laws.specs.Outcome.{refused, gives, refuse, _>>_, mapped, passed, gives-inj}
+use Rattle.fields.specs.Limits.{outside, most-columns, within}
+use Rattle.fields.specs.Fields.{packed}
+use Rattle.files.specs.Matrix.{Accepted, sizesOutside, bit, p, total, most-rows}
+use Rattle.files.specs.Files.{fileLength, matrixFile, matrixOf, readOf, writeHeaderOf}
+use Rattle.files.specs.Matrices.{tabled-whole, tabled-bit, tabled-bits}
+use Rattle.files.specs.Sizes.{sizes-refuse}
+use Rattle.files.specs.Checks.{read-room}
+use Rattle.files.specs.Writing.{with-header, Head, Wrote, ends-unheaded, ends-headed}
+use Rattle.files.specs.RoundTrip.{write-read}
+use Rattle.weights.specs.Weights.{counted, sum, share, built, buildOf, quotient}
+use Rattle.weights.specs.Division.{share-largest, quotient-is}
+use Rattle.weights.specs.declared.building.Usage.{Usage}
+
+-- ---- the checks
+module _ (usage : Usage) (weights : List ℕ) (n room : ℕ) where
+  -- past the sizes, with the header's check for the last
+  build-is : sizesOutside (length weights) n ≡ false → buildOf usage weights n room ≡
+      (refuse 11 (eqb (sum usage weights) 0) >> mapped (λ h. matrixFile (built usage weights n)) (writeHeaderOf (length weights) n room))
+  unfolding buildOf
+  build-is a = sizes-refuse (length weights) n _ ∙ rw (a, with-header (length weights) n room (matrixFile (built usage weights n)) a)
+
+  pub build-sizes : sizesOutside (length weights) n ≡ true → buildOf usage weights n room ≡ refused 3
+  unfolding buildOf
+  build-sizes a = sizes-refuse (length weights) n _ ∙ rw a
+
+  pub build-zero : sizesOutside (length weights) n ≡ false → sum usage weights ≡ 0 → buildOf usage weights n room ≡ refused 11
+  build-zero a c = rw (build-is a, eq-eqb (sum usage weights) 0 c)
+
+  pub build-rest : sizesOutside (length weights) n ≡ false → (sum usage weights ≡ 0 → ⊥) →
+      buildOf usage weights n room ≡ mapped (λ h. matrixFile (built usage weights n)) (writeHeaderOf (length weights) n room)
+  build-rest a c = rw (build-is a, ne-eqb (sum usage weights) 0 c)
+
+-- ---- what is built
+module _ (usage : Usage) (weights : List ℕ) (n : ℕ) where
+  -- the row of weight v, as a number
+  abbrev row : ℕ → ℕ
+  row v = share n (counted usage v (getD weights v 0)) (sum usage weights)
+
+  pub counted-le : (v : ℕ) → v < length weights → counted usage v (getD weights v 0) ≤ sum usage weights
+  unfolding sum
+  counted-le v l = term-le (length weights) v (λ v. counted usage v (getD weights v 0)) l
+
+  pub built-bit : (v c : ℕ) → v < length weights → c < n → bit (built usage weights n) v c ≡ digit n (row v) c
+  unfolding built
+  built-bit = tabled-bit (length weights) n (λ v. digit n (row v))
+
+  -- the bits that the division finds
+  pub built-quotient : 0 < sum usage weights → (v c : ℕ) → v < length weights → c < n →
+      quotient (sum usage weights) (counted usage v (getD weights v 0)) c ≡ bit (built usage weights n) v c
+  built-quotient z v c h l =
+      quotient-is (sum usage weights) (counted usage v (getD weights v 0)) n c z (counted-le v h) l ∙ sym (built-bit v c h l)
+
+  -- row v is the share of weight v
+  pub built-row : 0 < sum usage weights → (v : ℕ) → v < length weights → p (built usage weights n) v ≡ row v
+  unfolding p built
+  built-row z v h =
+      number-shift (bit (built usage weights n) v) (digit n (row v)) 0 0 n (λ i l. built-bit v (0 + i) h (omega arith)) ∙
+      number-digit n (row v) (share-largest n (counted usage v (getD weights v 0)) (sum usage weights) z .fits)
+
+  weights-sum : sumTo (length weights) (λ v. counted usage v (getD weights v 0)) ≡ sum usage weights
+  unfolding sum
+  weights-sum = refl
+
+  built-total : 0 < sum usage weights → total (built usage weights n) ≤ 2 ^ n
+  unfolding total built
+  built-total z =
+      let S : ℕ = sum usage weights in
+      let w : ℕ → ℕ = λ v. counted usage v (getD weights v 0) in
+      let T : sumTo (length weights) (p (built usage weights n)) ≡ sumTo (length weights) row =
+      sum-eq (length weights) (p (built usage weights n)) row (λ v l. built-row z v l) in
+      let scaled : sumTo (length weights) row * S ≤ sumTo (length weights) w * 2 ^ n =
+      rw (← sum-times (length weights) row S, ← sum-times (length weights) w (2 ^ n))
+      (sum-mono (length weights) (λ v. row v * S) (λ v. w v * 2 ^ n)
+      (λ v l. rw (mul-comm (w v) (2 ^ n)) (share-largest n (w v) S z .not-above))) in
+      let whole : sumTo (length weights) w ≡ S = weights-sum in
+      let all : sumTo (length weights) row * S ≤ 2 ^ n * S = omega (arith, scaled, ap (λ (x : ℕ). x * 2 ^ n) whole) in
+      rw T (le-of-mul-le-mul-right {k = S} all z)
+
+  -- the last step of building, past its checks
+  module _ (room : ℕ) (file : List ℕ) (all : room ≡ length file) (a : sizesOutside (length weights) n ≡ false)
+      (c : sum usage weights ≡ 0 → ⊥) where
+    passes : buildOf usage weights n room ≡ mapped (λ h. matrixFile (built usage weights n)) (writeHeaderOf (length weights) n room)
+    passes = build-rest usage weights n room a c
+
+    pub build-unheaded : (k : ℕ) (now : List ℕ) → Head (length weights) n room file (refused k) now →
+        Wrote (buildOf usage weights n room) file (refused k) now
+    unfolding built
+    build-unheaded = ends-unheaded (built usage weights n) (buildOf usage weights n room) room file all passes
+
+    pub build-headed : (len : ℕ) (now now′ : List ℕ) (s : ℕ) → s ≡ sum usage weights → Head (length weights) n room file (gives len) now →
+        now′ ≡ layAt 8 (blocks (length weights) (λ v. packed n (quotient s (counted usage v (getD weights v 0))))) now →
+        Wrote (buildOf usage weights n room) file (gives len) now′
+    unfolding built
+    build-headed len now now′ s e h r =
+        let some : 0 < sum usage weights = omega arith in
+        ends-headed (built usage weights n) (buildOf usage weights n room) room file all passes
+        (λ v. quotient (sum usage weights) (counted usage v (getD weights v 0))) len now now′ (built-quotient some) h (rw e at r)
+
+  pub built-accepted : 1 ≤ length weights → length weights ≤ most-rows → 1 ≤ n → n ≤ most-columns → 0 < sum usage weights →
+      Accepted (built usage weights n)
+  unfolding built
+  built-accepted a b c d z =
+      record {
+        some-rows = a;
+        few-rows = b;
+        some-columns = c;
+        few-columns = d;
+        whole = tabled-whole (length weights) n (λ v. digit n (row v));
+        bits = tabled-bits (length weights) n (λ v. digit n (row v)) (λ v. digit-le n (row v));
+        sum = built-total z;
+      }
+
+-- ---- what is built reads as itself
+-- What is built is the file of the matrix of the shares.
+pub built-is : (usage : Usage) (weights : List ℕ) (n room : ℕ) (file : List ℕ) → buildOf usage weights n room ≡ gives file →
+    matrixOf file ≡ gives (built usage weights n)
+unfolding buildOf
+built-is usage weights n room file e =
+    let c1 = passed 3 (outside most-rows (length weights)) _ file e in
+    let c2 = passed 3 (outside most-columns n) _ file (c1 .1) in
+    let c3 = passed 11 (eqb (sum usage weights) 0) _ file (c2 .1) in
+    let c4 = passed 13 (ltb room (fileLength (length weights) n)) _ file (c3 .1) in
+    let r = within most-rows (length weights) (c1 .0) in
+    let c = within most-columns n (c2 .0) in
+    let z : 0 < sum usage weights = omega (arith, eqb-false (sum usage weights) 0 (c3 .0)) in
+    rw (← gives-inj (c4 .1)) (write-read (built usage weights n) (built-accepted usage weights n (r .0) (r .1) (c .0) (c .1) z))
+
+-- It reads as that matrix, into any buffer with room for its entries.
+pub build-then-read : (usage : Usage) (weights : List ℕ) (n room : ℕ) (file : List ℕ) (space : ℕ) →
+    buildOf usage weights n room ≡ gives file → length weights * n ≤ space → readOf file space ≡ gives (built usage weights n)
+unfolding built
+build-then-read usage weights n room file space e h =
+    read-room file space (built usage weights n) (built-is usage weights n room file e) h
