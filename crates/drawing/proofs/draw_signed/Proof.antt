@@ -8,25 +8,10 @@ use Rattle.drawing.specs.OwnWords.{few-of, drawn-refused, drawn-read}
 use Rattle.drawing.proofs.draw_signed.Statement.{statement}
 use Rattle.drawing.proofs.draw_signed.Tie as tie
 
-fresh-requires : tie.Need-fresh-requires
-fresh-requires c κs = search needs
-
-slice-aggregate-run-batch : tie.Need-slice-aggregate-run-batch
-slice-aggregate-run-batch c = search needs
-
-slice-aggregate-run-batch-2 : tie.Need-slice-aggregate-run-batch-2
-slice-aggregate-run-batch-2 c = search needs
-
 run-batch-requires : tie.Need-run-batch-requires
 run-batch-requires c κs =
     let fresh = c .before .before .before .before .fresh .ensures in
     (omega (arith, zeroed-long most-registers _ (fresh .0)), omega (arith, zeroed-long most-outputs _ (fresh .1)))
-
-enum-known-why : tie.Need-enum-known-why
-enum-known-why c = search needs
-
-enum-known-n : tie.Need-enum-known-n
-enum-known-n c = search needs
 
 array-share-prefix-outputs : tie.Need-array-share-prefix-outputs
 array-share-prefix-outputs c =
@@ -40,14 +25,8 @@ slice-aggregate-signed-samples c =
     let batch = counted .before .before .before .before .run-batch in
     part-long _ (batch .last .1 .1 .1 .1 .0) (omega (arith, few-of (counted .n .given .1) (batch .ensures .1)))
 
-signed-samples-requires : tie.Need-signed-samples-requires
-signed-samples-requires c κs = search needs
-
 returns : tie.Need-returns
 returns c = drawn-refused _ _ _ _ _ (c .before .why .given .1) (search)
-
-same-length : tie.Need-same-length
-same-length c = search needs
 
 returns-2 : tie.Need-returns-2
 returns-2 c =
@@ -59,16 +38,5 @@ returns-2 c =
 pub draw-signed-spec : {M : Type 1} → statement M
 draw-signed-spec =
     tie.close
-    (tie.spec
-    fresh-requires
-    slice-aggregate-run-batch
-    slice-aggregate-run-batch-2
-    run-batch-requires
-    enum-known-why
-    enum-known-n
-    array-share-prefix-outputs
-    slice-aggregate-signed-samples
-    signed-samples-requires
-    returns
-    same-length
-    returns-2)
+    (tie.spec (λ c κs. search needs) (λ c. search needs) (λ c. search needs) run-batch-requires (λ c. search needs) (λ c. search needs)
+    array-share-prefix-outputs slice-aggregate-signed-samples (λ c κs. search needs) returns (λ c. search needs) returns-2)

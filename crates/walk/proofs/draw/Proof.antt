@@ -33,23 +33,8 @@ Inv-walk rows m n string w d₀ drawn₀ c₀ d drawn c =
 abbrev μ-walk : tie.MeasureT-walk
 μ-walk rows m n string w d₀ drawn₀ c₀ d drawn c = n - c
 
-width-requires : tie.Need-width-requires Inv-loop μ-loop Inv-walk μ-walk
-width-requires c κs = search needs
-
 walk-holds : tie.Need-walk-holds Inv-loop μ-loop Inv-walk μ-walk
 walk-holds c = (search needs, search needs, search needs, search needs, start _ _ _ _)
-
-mul-d : tie.Need-mul-d Inv-loop μ-loop Inv-walk μ-walk
-mul-d c = search needs
-
-bit-requires : tie.Need-bit-requires Inv-loop μ-loop Inv-walk μ-walk
-bit-requires c κs = search needs
-
-cast-d : tie.Need-cast-d Inv-loop μ-loop Inv-walk μ-walk
-cast-d c = search needs
-
-add-d : tie.Need-add-d Inv-loop μ-loop Inv-walk μ-walk
-add-d c = search needs
 
 loop-holds : tie.Need-loop-holds Inv-loop μ-loop Inv-walk μ-walk
 loop-holds c = (
@@ -61,26 +46,8 @@ loop-holds c = (
   into _ _ _ _ _ _ _ _ (search needs) (c .bit .ensures .0) (c .before .before .walk .inv .4),
 )
 
-sub-v : tie.Need-sub-v Inv-loop μ-loop Inv-walk μ-walk
-sub-v c = search needs
-
-sub-v-2 : tie.Need-sub-v-2 Inv-loop μ-loop Inv-walk μ-walk
-sub-v-2 c = search needs
-
 mul-bit : tie.Need-mul-bit Inv-loop μ-loop Inv-walk μ-walk
 mul-bit c = record { fits = place-fits _ _ (search needs) (search needs) }
-
-bit-requires-2 : tie.Need-bit-requires-2 Inv-loop μ-loop Inv-walk μ-walk
-bit-requires-2 c κs = search needs
-
-sub-d : tie.Need-sub-d Inv-loop μ-loop Inv-walk μ-walk
-sub-d c = search needs
-
-add-i : tie.Need-add-i Inv-loop μ-loop Inv-walk μ-walk
-add-i c = search needs
-
-loop-less : tie.Need-loop-less Inv-loop μ-loop Inv-walk μ-walk
-loop-less c = search needs
 
 loop-again : tie.Need-loop-again Inv-loop μ-loop Inv-walk μ-walk
 loop-again c =
@@ -106,12 +73,6 @@ loop-again c =
       pass _ _ _ _ _ _ _ _ _ _ (turn .loop-test .taken) bit (row .bit2 .ensures .1) (u .0 .left) (u .1) (at .inv .5),
     ))
     (c .if1 .came)
-
-add-c : tie.Need-add-c Inv-loop μ-loop Inv-walk μ-walk
-add-c c = search needs
-
-walk-less : tie.Need-walk-less Inv-loop μ-loop Inv-walk μ-walk
-walk-less c = search needs
 
 walk-again : tie.Need-walk-again Inv-loop μ-loop Inv-walk μ-walk
 walk-again c = (
@@ -143,29 +104,7 @@ returns-3 c =
 pub draw-spec : {M : Type 1} → statement M
 draw-spec =
     tie.close
-    (tie.spec
-    Inv-loop
-    μ-loop
-    Inv-walk
-    μ-walk
-    width-requires
-    walk-holds
-    mul-d
-    bit-requires
-    cast-d
-    add-d
-    loop-holds
-    sub-v
-    sub-v-2
-    mul-bit
-    bit-requires-2
-    sub-d
-    add-i
-    loop-less
-    loop-again
-    add-c
-    walk-less
-    walk-again
-    returns
-    returns-2
-    returns-3)
+    (tie.spec Inv-loop μ-loop Inv-walk μ-walk (λ c κs. search needs) walk-holds (λ c. search needs) (λ c κs. search needs)
+    (λ c. search needs) (λ c. search needs) loop-holds (λ c. search needs) (λ c. search needs) mul-bit (λ c κs. search needs)
+    (λ c. search needs) (λ c. search needs) (λ c. search needs) loop-again (λ c. search needs) (λ c. search needs) walk-again returns
+    returns-2 returns-3)

@@ -7,24 +7,6 @@ use Rattle.walk.specs.Ways.{walk-refused, walk-string, walk-draws}
 use Rattle.walk.proofs.walk.Statement.{statement}
 use Rattle.walk.proofs.walk.Tie as tie
 
-check-requires : tie.Need-check-requires
-check-requires c κs = search needs
-
-enum-known-why : tie.Need-enum-known-why
-enum-known-why c = search needs
-
-enum-known-rows : tie.Need-enum-known-rows
-enum-known-rows c = search needs
-
-check-strings-requires : tie.Need-check-strings-requires
-check-strings-requires c κs = search needs
-
-enum-known-why-2 : tie.Need-enum-known-why-2
-enum-known-why-2 c = search needs
-
-enum-told : tie.Need-enum-told
-enum-told c = search needs
-
 sub-draw : tie.Need-sub-draw
 sub-draw c =
     let sizes = c .before .before .before .before in
@@ -37,20 +19,11 @@ part-draw-start c =
     let w = checked-whole _ _ (rw (sizes .rows .given .1) at (sizes .before .before .check .ensures)) in
     omega (arith, w .long)
 
-part-draw-end : tie.Need-part-draw-end
-part-draw-end c = search needs
-
 draw-requires : tie.Need-draw-requires
 draw-requires c κs =
     let sizes = c .before .before .before .before .before in
     let w = checked-whole _ _ (rw (sizes .rows .given .1) at (sizes .before .before .check .ensures)) in
     (omega (arith, w .few-rows), omega (arith, w .few-columns))
-
-enum-known-row : tie.Need-enum-known-row
-enum-known-row c = search needs
-
-enum-told-2 : tie.Need-enum-told-2
-enum-told-2 c = search needs
 
 returns : tie.Need-returns
 returns c = walk-refused _ _ _ (rw (c .before .why .given .1) at (c .before .before .before .check .ensures))
@@ -85,20 +58,6 @@ returns-4 c =
 pub walk-spec : {M : Type 1} → statement M
 walk-spec =
     tie.close
-    (tie.spec
-    check-requires
-    enum-known-why
-    enum-known-rows
-    check-strings-requires
-    enum-known-why-2
-    enum-told
-    sub-draw
-    part-draw-start
-    part-draw-end
-    draw-requires
-    enum-known-row
-    enum-told-2
-    returns
-    returns-2
-    returns-3
-    returns-4)
+    (tie.spec (λ c κs. search needs) (λ c. search needs) (λ c. search needs) (λ c κs. search needs) (λ c. search needs)
+    (λ c. search needs) sub-draw part-draw-start (λ c. search needs) draw-requires (λ c. search needs) (λ c. search needs) returns
+    returns-2 returns-3 returns-4)

@@ -12,45 +12,8 @@ Inv-loop bytes k₀ k-end k = (k ≤ k-end) × (k-end ≡ length bytes)
 abbrev μ-loop : tie.MeasureT-loop
 μ-loop bytes k₀ k-end k = k-end - k
 
-print-space-requires : tie.Need-print-space-requires Inv-loop μ-loop
-print-space-requires c κs = search needs
-
-loop-holds : tie.Need-loop-holds Inv-loop μ-loop
-loop-holds c = search needs
-
-shared-slice-read-wide : tie.Need-shared-slice-read-wide Inv-loop μ-loop
-shared-slice-read-wide c = search needs
-
-wide-requires : tie.Need-wide-requires Inv-loop μ-loop
-wide-requires c κs = search needs
-
-print-hex-requires : tie.Need-print-hex-requires Inv-loop μ-loop
-print-hex-requires c κs = search needs
-
-add-k : tie.Need-add-k Inv-loop μ-loop
-add-k c = search needs
-
-loop-less : tie.Need-loop-less Inv-loop μ-loop
-loop-less c = search needs
-
-loop-again : tie.Need-loop-again Inv-loop μ-loop
-loop-again c = search needs
-
-returns : tie.Need-returns Inv-loop μ-loop
-returns c = search needs
-
 pub print-digits-spec : {M : Type 1} → statement M
 print-digits-spec =
     tie.close
-    (tie.spec
-    Inv-loop
-    μ-loop
-    print-space-requires
-    loop-holds
-    shared-slice-read-wide
-    wide-requires
-    print-hex-requires
-    add-k
-    loop-less
-    loop-again
-    returns)
+    (tie.spec Inv-loop μ-loop (λ c κs. search needs) (λ c. search needs) (λ c. search needs) (λ c κs. search needs)
+    (λ c κs. search needs) (λ c. search needs) (λ c. search needs) (λ c. search needs) (λ c. search needs))

@@ -6,24 +6,6 @@ use Rattle.corkhollow.specs.Telling.{walks}
 use Rattle.corkhollow.proofs.matrices.corkhollow_walk.Statement.{statement}
 use Rattle.corkhollow.proofs.matrices.corkhollow_walk.Tie as tie
 
-walk-requires : tie.Need-walk-requires
-walk-requires c κs = search needs
-
-enum-known-why : tie.Need-enum-known-why
-enum-known-why c = search needs
-
-number-requires : tie.Need-number-requires
-number-requires c κs = search needs
-
-enum-known-v : tie.Need-enum-known-v
-enum-known-v c = search needs
-
-enum-told : tie.Need-enum-told
-enum-told c = search needs
-
-cast-row : tie.Need-cast-row
-cast-row c = search needs
-
 returns : tie.Need-returns
 returns c = walks walked _ _ (c .before .before .why .given .1) (search) (c .number .ensures) refl
 
@@ -36,13 +18,5 @@ returns-3 c = walks walked _ _ (c .enum-told .given .1) (search) refl refl
 pub corkhollow-walk-spec : {M : Type 1} → statement M
 corkhollow-walk-spec =
     tie.close
-    (tie.spec
-    walk-requires
-    enum-known-why
-    number-requires
-    enum-known-v
-    enum-told
-    cast-row
-    returns
-    returns-2
-    returns-3)
+    (tie.spec (λ c κs. search needs) (λ c. search needs) (λ c κs. search needs) (λ c. search needs) (λ c. search needs)
+    (λ c. search needs) returns returns-2 returns-3)

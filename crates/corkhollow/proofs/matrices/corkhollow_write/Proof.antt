@@ -6,26 +6,8 @@ use Rattle.corkhollow.specs.Telling.{writes}
 use Rattle.corkhollow.proofs.matrices.corkhollow_write.Statement.{statement}
 use Rattle.corkhollow.proofs.matrices.corkhollow_write.Tie as tie
 
-write-requires : tie.Need-write-requires
-write-requires c κs = search needs
-
-enum-known-why : tie.Need-enum-known-why
-enum-known-why c = search needs
-
-number-requires : tie.Need-number-requires
-number-requires c κs = search needs
-
-enum-known-n : tie.Need-enum-known-n
-enum-known-n c = search needs
-
-same-length : tie.Need-same-length
-same-length c = search needs
-
 returns : tie.Need-returns
 returns c = writes written _ _ (c .before .before .why .given .1) (search) (c .number .ensures) refl
-
-same-length-2 : tie.Need-same-length-2
-same-length-2 c = search needs
 
 returns-2 : tie.Need-returns-2
 returns-2 c = writes written _ _ (c .before .n .given .1) (search) refl refl
@@ -33,12 +15,5 @@ returns-2 c = writes written _ _ (c .before .n .given .1) (search) refl refl
 pub corkhollow-write-spec : {M : Type 1} → statement M
 corkhollow-write-spec =
     tie.close
-    (tie.spec
-    write-requires
-    enum-known-why
-    number-requires
-    enum-known-n
-    same-length
-    returns
-    same-length-2
-    returns-2)
+    (tie.spec (λ c κs. search needs) (λ c. search needs) (λ c κs. search needs) (λ c. search needs) (λ c. search needs) returns
+    (λ c. search needs) returns-2)

@@ -6,32 +6,8 @@ use Rattle.corkhollow.specs.Telling.{runs}
 use Rattle.corkhollow.proofs.runs.corkhollow_resume.Statement.{statement}
 use Rattle.corkhollow.proofs.runs.corkhollow_resume.Tie as tie
 
-resume-requires : tie.Need-resume-requires
-resume-requires c κs = search needs
-
-enum-known-why : tie.Need-enum-known-why
-enum-known-why c = search needs
-
-number-requires : tie.Need-number-requires
-number-requires c κs = search needs
-
-enum-known-rest : tie.Need-enum-known-rest
-enum-known-rest c = search needs
-
-same-length : tie.Need-same-length
-same-length c = search needs
-
-same-length-2 : tie.Need-same-length-2
-same-length-2 c = search needs
-
 returns : tie.Need-returns
 returns c = runs ran _ _ _ _ (c .before .before .why .given .1) (search) (search) (search) (c .number .ensures) refl refl refl
-
-same-length-3 : tie.Need-same-length-3
-same-length-3 c = search needs
-
-same-length-4 : tie.Need-same-length-4
-same-length-4 c = search needs
 
 returns-2 : tie.Need-returns-2
 returns-2 c = runs ran _ _ _ _ (c .before .rest .given .1) (search) (search) (search) refl refl refl refl
@@ -39,14 +15,5 @@ returns-2 c = runs ran _ _ _ _ (c .before .rest .given .1) (search) (search) (se
 pub corkhollow-resume-spec : {M : Type 1} → statement M
 corkhollow-resume-spec =
     tie.close
-    (tie.spec
-    resume-requires
-    enum-known-why
-    number-requires
-    enum-known-rest
-    same-length
-    same-length-2
-    returns
-    same-length-3
-    same-length-4
-    returns-2)
+    (tie.spec (λ c κs. search needs) (λ c. search needs) (λ c κs. search needs) (λ c. search needs) (λ c. search needs)
+    (λ c. search needs) returns (λ c. search needs) (λ c. search needs) returns-2)

@@ -6,26 +6,8 @@ use Rattle.corkhollow.specs.Telling.{lays}
 use Rattle.corkhollow.proofs.signed.corkhollow_signed_samples.Statement.{statement}
 use Rattle.corkhollow.proofs.signed.corkhollow_signed_samples.Tie as tie
 
-signed-samples-requires : tie.Need-signed-samples-requires
-signed-samples-requires c κs = search needs
-
-enum-known-why : tie.Need-enum-known-why
-enum-known-why c = search needs
-
-number-requires : tie.Need-number-requires
-number-requires c κs = search needs
-
-enum-told : tie.Need-enum-told
-enum-told c = search needs
-
-same-length : tie.Need-same-length
-same-length c = search needs
-
 returns : tie.Need-returns
 returns c = lays sampled (λ xs. tt) _ (c .before .before .why .given .1) (search) (c .number .ensures)
-
-same-length-2 : tie.Need-same-length-2
-same-length-2 c = search needs
 
 returns-2 : tie.Need-returns-2
 returns-2 c = lays sampled (λ xs. tt) _ (c .enum-told .given .1) (search) refl
@@ -33,12 +15,5 @@ returns-2 c = lays sampled (λ xs. tt) _ (c .enum-told .given .1) (search) refl
 pub corkhollow-signed-samples-spec : {M : Type 1} → statement M
 corkhollow-signed-samples-spec =
     tie.close
-    (tie.spec
-    signed-samples-requires
-    enum-known-why
-    number-requires
-    enum-told
-    same-length
-    returns
-    same-length-2
-    returns-2)
+    (tie.spec (λ c κs. search needs) (λ c. search needs) (λ c κs. search needs) (λ c. search needs) (λ c. search needs) returns
+    (λ c. search needs) returns-2)

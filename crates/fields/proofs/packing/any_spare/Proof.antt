@@ -17,9 +17,6 @@ Inv-loop bytes count n w v₀ v = (v ≤ count) × (w ≡ width n) × (anySpare 
 abbrev μ-loop : tie.MeasureT-loop
 μ-loop bytes count n w v₀ v = count - v
 
-width-requires : tie.Need-width-requires Inv-loop μ-loop
-width-requires c κs = search needs
-
 loop-holds : tie.Need-loop-holds Inv-loop μ-loop
 loop-holds c = (search needs, search needs, any-none _)
 
@@ -39,12 +36,6 @@ returns c =
     let turn = c .before .before in
     sym (any-found _ _ _ (turn .loop-test .taken) (rw (← turn .before .loop .inv .1) (sym (c .before .spare-set .ensures) ∙ c .if1 .taken)))
 
-add-v : tie.Need-add-v Inv-loop μ-loop
-add-v c = search needs
-
-loop-less : tie.Need-loop-less Inv-loop μ-loop
-loop-less c = search needs
-
 loop-again : tie.Need-loop-again Inv-loop μ-loop
 loop-again c =
     let at = c .before .before .before .loop in
@@ -56,15 +47,5 @@ returns-2 c = any-done _ _ _ (c .before .loop .inv .0) (c .loop-test .left) (c .
 pub any-spare-spec : {M : Type 1} → statement M
 any-spare-spec =
     tie.close
-    (tie.spec
-    Inv-loop
-    μ-loop
-    width-requires
-    loop-holds
-    mul-spare-set
-    spare-set-requires
-    returns
-    add-v
-    loop-less
-    loop-again
-    returns-2)
+    (tie.spec Inv-loop μ-loop (λ c κs. search needs) loop-holds mul-spare-set spare-set-requires returns (λ c. search needs)
+    (λ c. search needs) loop-again returns-2)

@@ -8,14 +8,8 @@ use Rattle.fields.specs.Strings.{strings-size, strings-room, strings-sho
 use Rattle.fields.proofs.packing.check_strings.Statement.{statement}
 use Rattle.fields.proofs.packing.check_strings.Tie as tie
 
-outside-requires : tie.Need-outside-requires
-outside-requires c κs = search needs
-
 returns : tie.Need-returns
 returns c = strings-size _ _ _ (sym (c .before .outside .ensures) ∙ c .if1 .taken)
-
-width-requires : tie.Need-width-requires
-width-requires c κs = search needs
 
 div-if2 : tie.Need-div-if2
 div-if2 c =
@@ -53,13 +47,4 @@ returns-4 c =
 
 pub check-strings-spec : {M : Type 1} → statement M
 check-strings-spec =
-    tie.close
-    (tie.spec
-    outside-requires
-    returns
-    width-requires
-    div-if2
-    returns-2
-    any-spare-requires
-    returns-3
-    returns-4)
+    tie.close (tie.spec (λ c κs. search needs) returns (λ c κs. search needs) div-if2 returns-2 any-spare-requires returns-3 returns-4)

@@ -10,23 +10,8 @@ use Rattle.fields.proofs.records.put_field.Tie as tie
 returns : tie.Need-returns
 returns c = stored-none _ _ _ (omega arith)
 
-sub-if2 : tie.Need-sub-if2
-sub-if2 c = search needs
-
 returns-2 : tie.Need-returns-2
 returns-2 c = stored-none _ _ _ (omega arith)
-
-cast-bytes : tie.Need-cast-bytes
-cast-bytes c = search needs
-
-slice-write-bytes : tie.Need-slice-write-bytes
-slice-write-bytes c = search needs
-
-cast-bytes-2 : tie.Need-cast-bytes-2
-cast-bytes-2 c = search needs
-
-add-bytes : tie.Need-add-bytes
-add-bytes c = search needs
 
 slice-write-bytes-2 : tie.Need-slice-write-bytes-2
 slice-write-bytes-2 c = simp length-set (omega arith)
@@ -40,14 +25,5 @@ returns-3 c = field-laid _ _ _ _ (omega arith) ∙ sym (stored-at _ _ _ (omega a
 pub put-field-spec : {M : Type 1} → statement M
 put-field-spec =
     tie.close
-    (tie.spec
-    returns
-    sub-if2
-    returns-2
-    cast-bytes
-    slice-write-bytes
-    cast-bytes-2
-    add-bytes
-    slice-write-bytes-2
-    same-length
-    returns-3)
+    (tie.spec returns (λ c. search needs) returns-2 (λ c. search needs) (λ c. search needs) (λ c. search needs) (λ c. search needs)
+    slice-write-bytes-2 same-length returns-3)

@@ -8,16 +8,10 @@ use Rattle.files.proofs.headers.read_header.Tie as tie
 returns : tie.Need-returns
 returns c = header-short _ (c .if1 .taken)
 
-field-requires : tie.Need-field-requires
-field-requires c κs = search needs
-
 returns-2 : tie.Need-returns-2
 returns-2 c =
     let long = c .before in
     header-cut _ (long .before .if1 .left) (rw (long .field .ensures .0) at (c .if2 .taken))
-
-field-requires-2 : tie.Need-field-requires-2
-field-requires-2 c κs = search needs
 
 returns-3 : tie.Need-returns-3
 returns-3 c =
@@ -25,15 +19,6 @@ returns-3 c =
     let long = there .before in
     header-kind _ (long .before .if1 .left) (rw (long .field .ensures .0) at (there .if2 .left))
     (λ e. c .if3 .taken (c .before .field2 .ensures .0 ∙ e))
-
-field-requires-3 : tie.Need-field-requires-3
-field-requires-3 c κs = search needs
-
-field-requires-4 : tie.Need-field-requires-4
-field-requires-4 c κs = search needs
-
-sizes-outside-requires : tie.Need-sizes-outside-requires
-sizes-outside-requires c κs = search needs
 
 returns-4 : tie.Need-returns-4
 returns-4 c =
@@ -92,17 +77,5 @@ returns-7 c =
 pub read-header-spec : {M : Type 1} → statement M
 read-header-spec =
     tie.close
-    (tie.spec
-    returns
-    field-requires
-    returns-2
-    field-requires-2
-    returns-3
-    field-requires-3
-    field-requires-4
-    sizes-outside-requires
-    returns-4
-    file-length-requires
-    returns-5
-    returns-6
-    returns-7)
+    (tie.spec returns (λ c κs. search needs) returns-2 (λ c κs. search needs) returns-3 (λ c κs. search needs) (λ c κs. search needs)
+    (λ c κs. search needs) returns-4 file-length-requires returns-5 returns-6 returns-7)

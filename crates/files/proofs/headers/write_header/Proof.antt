@@ -7,9 +7,6 @@ use Rattle.files.specs.Writing.{head-sizes, head-full, head-gives, heade
 use Rattle.files.proofs.headers.write_header.Statement.{statement}
 use Rattle.files.proofs.headers.write_header.Tie as tie
 
-sizes-outside-requires : tie.Need-sizes-outside-requires
-sizes-outside-requires c κs = search needs
-
 returns : tie.Need-returns
 returns c = ends-refused _ _ _ _ _ (head-sizes _ _ _ (sym (c .before .sizes-outside .ensures) ∙ c .if1 .taken))
 
@@ -22,30 +19,6 @@ returns-2 c =
     ends-refused _ _ _ _ _
     (head-full _ _ _ (sym (sized .before .sizes-outside .ensures) ∙ sized .if1 .left)
     (rw (c .before .file-length .ensures .0) at (c .if2 .taken)))
-
-cast-put-field : tie.Need-cast-put-field
-cast-put-field c = search needs
-
-put-field-requires : tie.Need-put-field-requires
-put-field-requires c κs = search needs
-
-put-field-requires-2 : tie.Need-put-field-requires-2
-put-field-requires-2 c κs = search needs
-
-cast-put-field-2 : tie.Need-cast-put-field-2
-cast-put-field-2 c = search needs
-
-put-field-requires-3 : tie.Need-put-field-requires-3
-put-field-requires-3 c κs = search needs
-
-cast-put-field-3 : tie.Need-cast-put-field-3
-cast-put-field-3 c = search needs
-
-put-field-requires-4 : tie.Need-put-field-requires-4
-put-field-requires-4 c κs = search needs
-
-same-length : tie.Need-same-length
-same-length c = search needs
 
 returns-3 : tie.Need-returns-3
 returns-3 c =
@@ -64,17 +37,6 @@ returns-3 c =
 pub write-header-spec : {M : Type 1} → statement M
 write-header-spec =
     tie.close
-    (tie.spec
-    sizes-outside-requires
-    returns
-    file-length-requires
-    returns-2
-    cast-put-field
-    put-field-requires
-    put-field-requires-2
-    cast-put-field-2
-    put-field-requires-3
-    cast-put-field-3
-    put-field-requires-4
-    same-length
+    (tie.spec (λ c κs. search needs) returns file-length-requires returns-2 (λ c. search needs) (λ c κs. search needs)
+    (λ c κs. search needs) (λ c. search needs) (λ c κs. search needs) (λ c. search needs) (λ c κs. search needs) (λ c. search needs)
     returns-3)

@@ -28,23 +28,11 @@ add-n c = record { fits = omega (arith, c .before .before .pre .2 (c .before .lo
 shared-slice-read-n : tie.Need-shared-slice-read-n Inv-loop μ-loop
 shared-slice-read-n c = c .before .before .before .pre .2 (c .before .before .loop .v) (c .before .loop-test .taken)
 
-cast-n : tie.Need-cast-n Inv-loop μ-loop
-cast-n c = search needs
-
-shr-n : tie.Need-shr-n Inv-loop μ-loop
-shr-n c = search needs
-
 cast-n-2 : tie.Need-cast-n-2 Inv-loop μ-loop
 cast-n-2 c = rw and-one (omega arith)
 
 add-n-2 : tie.Need-add-n-2 Inv-loop μ-loop
 add-n-2 c = rw and-one (omega arith)
-
-add-v : tie.Need-add-v Inv-loop μ-loop
-add-v c = search needs
-
-loop-less : tie.Need-loop-less Inv-loop μ-loop
-loop-less c = search needs
 
 loop-again : tie.Need-loop-again Inv-loop μ-loop
 loop-again c = (search needs, sum-turn _ _ _ _ (strided-read _ _ _ _ _) (c .before .before .loop .inv .1), rw and-one (omega arith))
@@ -55,18 +43,5 @@ returns c = sum-done _ _ _ _ (c .before .loop .inv .0) (c .loop-test .left) (c .
 pub ones-spec : {M : Type 1} → statement M
 ones-spec =
     tie.close
-    (tie.spec
-    Inv-loop
-    μ-loop
-    loop-holds
-    mul-n
-    add-n
-    shared-slice-read-n
-    cast-n
-    shr-n
-    cast-n-2
-    add-n-2
-    add-v
-    loop-less
-    loop-again
-    returns)
+    (tie.spec Inv-loop μ-loop loop-holds mul-n add-n shared-slice-read-n (λ c. search needs) (λ c. search needs) cast-n-2 add-n-2
+    (λ c. search needs) (λ c. search needs) loop-again returns)

@@ -6,27 +6,6 @@ use Rattle.files.specs.Checks.{row-bytes, body-refused, body-sum}
 use Rattle.files.proofs.reading.body.Statement.{statement}
 use Rattle.files.proofs.reading.body.Tie as tie
 
-sub-bytes : tie.Need-sub-bytes
-sub-bytes c = search needs
-
-part-bytes-start : tie.Need-part-bytes-start
-part-bytes-start c = search needs
-
-part-bytes-end : tie.Need-part-bytes-end
-part-bytes-end c = search needs
-
-check-strings-requires : tie.Need-check-strings-requires
-check-strings-requires c κs = search needs
-
-enum-known-why : tie.Need-enum-known-why
-enum-known-why c = search needs
-
-enum-told : tie.Need-enum-told
-enum-told c = search needs
-
-width-requires : tie.Need-width-requires
-width-requires c κs = search needs
-
 fits-requires : tie.Need-fits-requires
 fits-requires c κs = (
   search needs,
@@ -63,15 +42,5 @@ returns-3 c =
 pub body-spec : {M : Type 1} → statement M
 body-spec =
     tie.close
-    (tie.spec
-    sub-bytes
-    part-bytes-start
-    part-bytes-end
-    check-strings-requires
-    enum-known-why
-    enum-told
-    width-requires
-    fits-requires
-    returns
-    returns-2
-    returns-3)
+    (tie.spec (λ c. search needs) (λ c. search needs) (λ c. search needs) (λ c κs. search needs) (λ c. search needs) (λ c. search needs)
+    (λ c κs. search needs) fits-requires returns returns-2 returns-3)

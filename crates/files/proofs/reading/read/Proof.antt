@@ -11,15 +11,6 @@ use Rattle.files.specs.Checks.{checked-whole, read-refused, read-short, 
 use Rattle.files.proofs.reading.read.Statement.{statement}
 use Rattle.files.proofs.reading.read.Tie as tie
 
-check-requires : tie.Need-check-requires
-check-requires c κs = search needs
-
-enum-known-why : tie.Need-enum-known-why
-enum-known-why c = search needs
-
-enum-known-rows : tie.Need-enum-known-rows
-enum-known-rows c = search needs
-
 mul-if1 : tie.Need-mul-if1
 mul-if1 c =
     let told = c .before in
@@ -43,9 +34,6 @@ part-unpack-start c =
     let w = checked-whole _ _ (rw (told .rows .given .1) at (told .before .before .check .ensures)) in
     omega (arith, w .long)
 
-part-unpack-end : tie.Need-part-unpack-end
-part-unpack-end c = search needs
-
 unpack-requires : tie.Need-unpack-requires
 unpack-requires c κs = c .before .before .if1 .left
 
@@ -53,9 +41,6 @@ returns-2 : tie.Need-returns-2
 returns-2 c =
     let told = c .before in
     ends-refused _ _ _ _ _ (read-refused _ _ _ (rw (told .why .given .1) at (told .before .before .check .ensures)))
-
-same-length : tie.Need-same-length
-same-length c = search needs
 
 returns-3 : tie.Need-returns-3
 unfolding unpacked
@@ -70,16 +55,5 @@ returns-3 c =
 pub read-spec : {M : Type 1} → statement M
 read-spec =
     tie.close
-    (tie.spec
-    check-requires
-    enum-known-why
-    enum-known-rows
-    mul-if1
-    returns
-    sub-unpack
-    part-unpack-start
-    part-unpack-end
-    unpack-requires
-    returns-2
-    same-length
-    returns-3)
+    (tie.spec (λ c κs. search needs) (λ c. search needs) (λ c. search needs) mul-if1 returns sub-unpack part-unpack-start
+    (λ c. search needs) unpack-requires returns-2 (λ c. search needs) returns-3)

@@ -17,9 +17,6 @@ Inv-loop bytes m n entries₀ w v₀ entries v =
 abbrev μ-loop : tie.MeasureT-loop
 μ-loop bytes m n entries₀ w v₀ entries v = m - v
 
-width-requires : tie.Need-width-requires Inv-loop μ-loop
-width-requires c κs = search needs
-
 loop-holds : tie.Need-loop-holds Inv-loop μ-loop
 loop-holds c = (search needs, search needs, blocks-none _ _ _)
 
@@ -44,12 +41,6 @@ unpack-row-requires c κs =
     let s = c .before .before .before .before .before .before in
     omega (arith, row-end (s .args .n) (s .args .n) (c .before .loop-test .taken) refl (s .pre))
 
-add-v : tie.Need-add-v Inv-loop μ-loop
-add-v c = search needs
-
-loop-less : tie.Need-loop-less Inv-loop μ-loop
-loop-less c = search needs
-
 loop-again : tie.Need-loop-again Inv-loop μ-loop
 loop-again c =
     let turn = c .before .before .before .before in
@@ -71,16 +62,5 @@ returns c = blocks-done _ _ _ _ _ _ (c .before .loop .inv .0) (c .loop-test .lef
 pub unpack-spec : {M : Type 1} → statement M
 unpack-spec =
     tie.close
-    (tie.spec
-    Inv-loop
-    μ-loop
-    width-requires
-    loop-holds
-    mul-unpack-row
-    mul-unpack-row-2
-    unpack-row-requires
-    add-v
-    loop-less
-    loop-again
-    same-length
-    returns)
+    (tie.spec Inv-loop μ-loop (λ c κs. search needs) loop-holds mul-unpack-row mul-unpack-row-2 unpack-row-requires (λ c. search needs)
+    (λ c. search needs) loop-again same-length returns)

@@ -20,15 +20,6 @@ loop-holds c = (search needs, spelt-none _ _)
 mul-byte : tie.Need-mul-byte Inv-loop μ-loop
 mul-byte c = record { fits = omega (arith, spelt-room _ _ _ 8 _ (c .loop-test .taken) (c .before .loop .inv .1)) }
 
-mul-entry : tie.Need-mul-entry Inv-loop μ-loop
-mul-entry c = search needs
-
-add-entry : tie.Need-add-entry Inv-loop μ-loop
-add-entry c = search needs
-
-entry-requires : tie.Need-entry-requires Inv-loop μ-loop
-entry-requires c κs = search needs
-
 add-byte : tie.Need-add-byte Inv-loop μ-loop
 add-byte c =
     let at = c .before .before .loop in
@@ -42,12 +33,6 @@ add-byte c =
       );
     }
 
-add-t : tie.Need-add-t Inv-loop μ-loop
-add-t c = search needs
-
-loop-less : tie.Need-loop-less Inv-loop μ-loop
-loop-less c = search needs
-
 loop-again : tie.Need-loop-again Inv-loop μ-loop
 loop-again c =
     let at = c .before .before .loop in
@@ -60,16 +45,5 @@ returns c = spelt-done _ _ _ _ _ (c .before .loop .inv .0) (c .loop-test .left) 
 pub pack-byte-spec : {M : Type 1} → statement M
 pack-byte-spec =
     tie.close
-    (tie.spec
-    Inv-loop
-    μ-loop
-    loop-holds
-    mul-byte
-    mul-entry
-    add-entry
-    entry-requires
-    add-byte
-    add-t
-    loop-less
-    loop-again
-    returns)
+    (tie.spec Inv-loop μ-loop loop-holds mul-byte (λ c. search needs) (λ c. search needs) (λ c κs. search needs) add-byte
+    (λ c. search needs) (λ c. search needs) loop-again returns)

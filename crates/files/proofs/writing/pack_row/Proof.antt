@@ -17,26 +17,11 @@ Inv-loop entries from n file₀ at w q₀ file q =
 abbrev μ-loop : tie.MeasureT-loop
 μ-loop entries from n file₀ at w q₀ file q = w - q
 
-width-requires : tie.Need-width-requires Inv-loop μ-loop
-width-requires c κs = search needs
-
 loop-holds : tie.Need-loop-holds Inv-loop μ-loop
 loop-holds c = (search needs, search needs, upto-none _ _ _)
 
 pack-byte-requires : tie.Need-pack-byte-requires Inv-loop μ-loop
 pack-byte-requires c κs = (search needs, search needs, c .before .before .before .before .before .pre .3)
-
-add-file : tie.Need-add-file Inv-loop μ-loop
-add-file c = search needs
-
-slice-write-file : tie.Need-slice-write-file Inv-loop μ-loop
-slice-write-file c = search needs
-
-add-q : tie.Need-add-q Inv-loop μ-loop
-add-q c = search needs
-
-loop-less : tie.Need-loop-less Inv-loop μ-loop
-loop-less c = search needs
 
 loop-again : tie.Need-loop-again Inv-loop μ-loop
 loop-again c =
@@ -55,16 +40,5 @@ returns c =
 pub pack-row-spec : {M : Type 1} → statement M
 pack-row-spec =
     tie.close
-    (tie.spec
-    Inv-loop
-    μ-loop
-    width-requires
-    loop-holds
-    pack-byte-requires
-    add-file
-    slice-write-file
-    add-q
-    loop-less
-    loop-again
-    same-length
-    returns)
+    (tie.spec Inv-loop μ-loop (λ c κs. search needs) loop-holds pack-byte-requires (λ c. search needs) (λ c. search needs)
+    (λ c. search needs) (λ c. search needs) loop-again same-length returns)

@@ -19,9 +19,6 @@ Inv-loop entries m n file₀ w v₀ file v =
 abbrev μ-loop : tie.MeasureT-loop
 μ-loop entries m n file₀ w v₀ file v = m - v
 
-width-requires : tie.Need-width-requires Inv-loop μ-loop
-width-requires c κs = search needs
-
 loop-holds : tie.Need-loop-holds Inv-loop μ-loop
 loop-holds c = (search needs, search needs, blocks-none _ _ _)
 
@@ -53,12 +50,6 @@ pack-row-requires c κs =
       λ i h. no-entry-above _ (s .args .entries .now) (s .pre .4) _ (cell _ _ _ i (turn .loop-test .taken) h),
     )
 
-add-v : tie.Need-add-v Inv-loop μ-loop
-add-v c = search needs
-
-loop-less : tie.Need-loop-less Inv-loop μ-loop
-loop-less c = search needs
-
 loop-again : tie.Need-loop-again Inv-loop μ-loop
 loop-again c =
     let turn = c .before .before .before .before in
@@ -80,17 +71,5 @@ returns c = blocks-done _ _ _ _ _ _ (c .before .loop .inv .0) (c .loop-test .lef
 pub pack-rows-spec : {M : Type 1} → statement M
 pack-rows-spec =
     tie.close
-    (tie.spec
-    Inv-loop
-    μ-loop
-    width-requires
-    loop-holds
-    mul-pack-row
-    mul-pack-row-2
-    add-pack-row
-    pack-row-requires
-    add-v
-    loop-less
-    loop-again
-    same-length
-    returns)
+    (tie.spec Inv-loop μ-loop (λ c κs. search needs) loop-holds mul-pack-row mul-pack-row-2 add-pack-row pack-row-requires
+    (λ c. search needs) (λ c. search needs) loop-again same-length returns)

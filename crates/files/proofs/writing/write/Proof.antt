@@ -8,9 +8,6 @@ use Rattle.files.specs.Writing.{write-sizes, write-short, write-bit, wri
 use Rattle.files.proofs.writing.write.Statement.{statement}
 use Rattle.files.proofs.writing.write.Tie as tie
 
-sizes-outside-requires : tie.Need-sizes-outside-requires
-sizes-outside-requires c κs = search needs
-
 returns : tie.Need-returns
 returns c = ends-refused _ _ _ _ _ (write-sizes _ _ _ _ (sym (c .before .sizes-outside .ensures) ∙ c .if1 .taken))
 
@@ -23,12 +20,6 @@ returns-2 : tie.Need-returns-2
 returns-2 c =
     let sized = c .before in
     ends-refused _ _ _ _ _ (write-short _ _ _ _ (sym (sized .before .sizes-outside .ensures) ∙ sized .if1 .left) (c .if2 .taken))
-
-mul-any-above-one : tie.Need-mul-any-above-one
-mul-any-above-one c = search needs
-
-any-above-one-requires : tie.Need-any-above-one-requires
-any-above-one-requires c κs = search needs
 
 returns-3 : tie.Need-returns-3
 returns-3 c =
@@ -59,15 +50,6 @@ returns-4 c =
     (write-sum _ _ _ _ (sym (sized .before .sizes-outside .ensures) ∙ sized .if1 .left) (there .if2 .left)
     (sym (bits .before .any-above-one .ensures) ∙ bits .if3 .left) (rw (c .before .fits2 .ensures) at (c .if4 .taken)))
 
-write-header-requires : tie.Need-write-header-requires
-write-header-requires c κs = search needs
-
-enum-known-why : tie.Need-enum-known-why
-enum-known-why c = search needs
-
-enum-known-length : tie.Need-enum-known-length
-enum-known-length c = search needs
-
 pack-rows-requires : tie.Need-pack-rows-requires
 pack-rows-requires c κs =
     let wrote = c .before .before .before .before .before .before in
@@ -81,9 +63,6 @@ pack-rows-requires c κs =
       sym (bits .before .any-above-one .ensures) ∙ bits .if3 .left,
     )
 
-same-length : tie.Need-same-length
-same-length c = search needs
-
 returns-5 : tie.Need-returns-5
 returns-5 c =
     let wrote = c .before .before .before .before .before in
@@ -95,9 +74,6 @@ returns-5 c =
     (sym (sized .before .sizes-outside .ensures) ∙ sized .if1 .left) (there .if2 .left)
     (sym (bits .before .any-above-one .ensures) ∙ bits .if3 .left) (rw (small .before .fits2 .ensures) at (small .if4 .left)) _ _
     (rw (c .before .why .given .1) at (wrote .write-header .ensures))
-
-same-length-2 : tie.Need-same-length-2
-same-length-2 c = search needs
 
 returns-6 : tie.Need-returns-6
 returns-6 c =
@@ -115,21 +91,6 @@ returns-6 c =
 pub write-spec : {M : Type 1} → statement M
 write-spec =
     tie.close
-    (tie.spec
-    sizes-outside-requires
-    returns
-    mul-if2
-    returns-2
-    mul-any-above-one
-    any-above-one-requires
-    returns-3
-    fits-requires
-    returns-4
-    write-header-requires
-    enum-known-why
-    enum-known-length
-    pack-rows-requires
-    same-length
-    returns-5
-    same-length-2
-    returns-6)
+    (tie.spec (λ c κs. search needs) returns mul-if2 returns-2 (λ c. search needs) (λ c κs. search needs) returns-3 fits-requires
+    returns-4 (λ c κs. search needs) (λ c. search needs) (λ c. search needs) pack-rows-requires (λ c. search needs) returns-5
+    (λ c. search needs) returns-6)

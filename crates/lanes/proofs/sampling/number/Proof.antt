@@ -17,30 +17,6 @@ abbrev μ-loop : tie.MeasureT-loop
 loop-holds : tie.Need-loop-holds Inv-loop μ-loop
 loop-holds c = (search needs, search needs, packed-none _)
 
-mul-lane : tie.Need-mul-lane Inv-loop μ-loop
-mul-lane c = search needs
-
-shared-slice-read-lane : tie.Need-shared-slice-read-lane Inv-loop μ-loop
-shared-slice-read-lane c = search needs
-
-lane-requires : tie.Need-lane-requires Inv-loop μ-loop
-lane-requires c κs = search needs
-
-sub-number : tie.Need-sub-number Inv-loop μ-loop
-sub-number c = search needs
-
-cast-number : tie.Need-cast-number Inv-loop μ-loop
-cast-number c = search needs
-
-shl-number : tie.Need-shl-number Inv-loop μ-loop
-shl-number c = search needs
-
-add-t : tie.Need-add-t Inv-loop μ-loop
-add-t c = search needs
-
-loop-less : tie.Need-loop-less Inv-loop μ-loop
-loop-less c = search needs
-
 loop-again : tie.Need-loop-again Inv-loop μ-loop
 loop-again c = (
   search needs,
@@ -60,17 +36,5 @@ returns c =
 pub number-spec : {M : Type 1} → statement M
 number-spec =
     tie.close
-    (tie.spec
-    Inv-loop
-    μ-loop
-    loop-holds
-    mul-lane
-    shared-slice-read-lane
-    lane-requires
-    sub-number
-    cast-number
-    shl-number
-    add-t
-    loop-less
-    loop-again
-    returns)
+    (tie.spec Inv-loop μ-loop loop-holds (λ c. search needs) (λ c. search needs) (λ c κs. search needs) (λ c. search needs)
+    (λ c. search needs) (λ c. search needs) (λ c. search needs) (λ c. search needs) loop-again returns)

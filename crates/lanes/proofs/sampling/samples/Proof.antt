@@ -27,23 +27,8 @@ returns-3 c = reads-short _ _ _ (c .before .before .if1 .left) (c .before .if2 .
 loop-holds : tie.Need-loop-holds Inv-loop μ-loop
 loop-holds c = (search needs, upto-none _ _ _)
 
-sample-requires : tie.Need-sample-requires Inv-loop μ-loop
-sample-requires c κs = search needs
-
-slice-write-samples : tie.Need-slice-write-samples Inv-loop μ-loop
-slice-write-samples c = search needs
-
-add-j : tie.Need-add-j Inv-loop μ-loop
-add-j c = search needs
-
-loop-less : tie.Need-loop-less Inv-loop μ-loop
-loop-less c = search needs
-
 loop-again : tie.Need-loop-again Inv-loop μ-loop
 loop-again c = (search needs, laid-store _ _ _ _ _ _ _ (omega arith) (search needs) (c .sample .ensures) (c .before .before .loop .inv .1))
-
-same-length : tie.Need-same-length Inv-loop μ-loop
-same-length c = search needs
 
 returns-4 : tie.Need-returns-4 Inv-loop μ-loop
 returns-4 c =
@@ -56,17 +41,5 @@ returns-4 c =
 pub samples-spec : {M : Type 1} → statement M
 samples-spec =
     tie.close
-    (tie.spec
-    Inv-loop
-    μ-loop
-    returns
-    returns-2
-    returns-3
-    loop-holds
-    sample-requires
-    slice-write-samples
-    add-j
-    loop-less
-    loop-again
-    same-length
-    returns-4)
+    (tie.spec Inv-loop μ-loop returns returns-2 returns-3 loop-holds (λ c κs. search needs) (λ c. search needs) (λ c. search needs)
+    (λ c. search needs) loop-again (λ c. search needs) returns-4)

@@ -29,30 +29,12 @@ returns-3 c = reads-short _ _ _ (c .before .before .if1 .left) (c .before .if2 .
 loop-holds : tie.Need-loop-holds Inv-loop μ-loop
 loop-holds c = (search needs, upto-none _ _ _)
 
-signed-sample-requires : tie.Need-signed-sample-requires Inv-loop μ-loop
-signed-sample-requires c κs = search needs
-
-mul-t12 : tie.Need-mul-t12 Inv-loop μ-loop
-mul-t12 c = search needs
-
-slice-set-from-samples : tie.Need-slice-set-from-samples Inv-loop μ-loop
-slice-set-from-samples c = search needs
-
-add-j : tie.Need-add-j Inv-loop μ-loop
-add-j c = search needs
-
-loop-less : tie.Need-loop-less Inv-loop μ-loop
-loop-less c = search needs
-
 loop-again : tie.Need-loop-again Inv-loop μ-loop
 loop-again c = (
   search needs,
   laid-store _ _ _ _ _ _ _ (omega arith) (search needs)
       (kept _ _ (record { sfits = c .signed-sample .ok }) (c .signed-sample .ensures)) (c .before .before .loop .inv .1),
 )
-
-same-length : tie.Need-same-length Inv-loop μ-loop
-same-length c = search needs
 
 returns-4 : tie.Need-returns-4 Inv-loop μ-loop
 returns-4 c =
@@ -65,18 +47,5 @@ returns-4 c =
 pub signed-samples-spec : {M : Type 1} → statement M
 signed-samples-spec =
     tie.close
-    (tie.spec
-    Inv-loop
-    μ-loop
-    returns
-    returns-2
-    returns-3
-    loop-holds
-    signed-sample-requires
-    mul-t12
-    slice-set-from-samples
-    add-j
-    loop-less
-    loop-again
-    same-length
-    returns-4)
+    (tie.spec Inv-loop μ-loop returns returns-2 returns-3 loop-holds (λ c κs. search needs) (λ c. search needs) (λ c. search needs)
+    (λ c. search needs) (λ c. search needs) loop-again (λ c. search needs) returns-4)

@@ -8,15 +8,6 @@ use Rattle.lanes.specs.Slicing.{slice-refused, slice-short, slice-gives,
 use Rattle.lanes.proofs.slicing.slice.Statement.{statement}
 use Rattle.lanes.proofs.slicing.slice.Tie as tie
 
-check-strings-requires : tie.Need-check-strings-requires
-check-strings-requires c κs = search needs
-
-enum-known-why : tie.Need-enum-known-why
-enum-known-why c = search needs
-
-enum-told : tie.Need-enum-told
-enum-told c = search needs
-
 returns : tie.Need-returns
 returns c =
     let sound = rw (c .before .enum-told .given .1) at (c .before .before .before .check-strings .ensures) in
@@ -31,9 +22,6 @@ returns-2 : tie.Need-returns-2
 returns-2 c =
     ends-refused _ _ _ _ _ (slice-refused _ _ _ _ (rw (c .before .why .given .1) at (c .before .before .before .check-strings .ensures)))
 
-same-length : tie.Need-same-length
-same-length c = search needs
-
 returns-3 : tie.Need-returns-3
 returns-3 c =
     let sound = rw (c .before .before .before .before .before .enum-told .given .1) at
@@ -44,12 +32,5 @@ returns-3 c =
 pub slice-spec : {M : Type 1} → statement M
 slice-spec =
     tie.close
-    (tie.spec
-    check-strings-requires
-    enum-known-why
-    enum-told
-    returns
-    put-words-requires
-    returns-2
-    same-length
+    (tie.spec (λ c κs. search needs) (λ c. search needs) (λ c. search needs) returns put-words-requires returns-2 (λ c. search needs)
     returns-3)

@@ -36,26 +36,8 @@ shared-slice-read-word c =
     let at = c .before .before .loop in
     omega (arith, string-in (at .j) (s .args .w) (s .args .i / 8) _ (c .before .loop-test .taken) (s .pre .0) (s .pre .1))
 
-sub-word : tie.Need-sub-word Inv-loop μ-loop
-sub-word c = search needs
-
-cast-word : tie.Need-cast-word Inv-loop μ-loop
-cast-word c = search needs
-
-shr-word : tie.Need-shr-word Inv-loop μ-loop
-shr-word c = search needs
-
 cast-word-2 : tie.Need-cast-word-2 Inv-loop μ-loop
 cast-word-2 c = rw and-one (omega arith)
-
-shl-word : tie.Need-shl-word Inv-loop μ-loop
-shl-word c = search needs
-
-add-j : tie.Need-add-j Inv-loop μ-loop
-add-j c = search needs
-
-loop-less : tie.Need-loop-less Inv-loop μ-loop
-loop-less c = search needs
 
 loop-again : tie.Need-loop-again Inv-loop μ-loop
 loop-again c = (
@@ -69,19 +51,5 @@ returns c = word-done _ _ _ _ _ (c .before .loop .inv .0) (c .loop-test .left) (
 pub word-spec : {M : Type 1} → statement M
 word-spec =
     tie.close
-    (tie.spec
-    Inv-loop
-    μ-loop
-    loop-holds
-    mul-word
-    add-word
-    shared-slice-read-word
-    sub-word
-    cast-word
-    shr-word
-    cast-word-2
-    shl-word
-    add-j
-    loop-less
-    loop-again
-    returns)
+    (tie.spec Inv-loop μ-loop loop-holds mul-word add-word shared-slice-read-word (λ c. search needs) (λ c. search needs)
+    (λ c. search needs) cast-word-2 (λ c. search needs) (λ c. search needs) (λ c. search needs) loop-again returns)

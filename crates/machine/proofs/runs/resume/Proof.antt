@@ -38,22 +38,10 @@ fits c =
       room = room-means _ _ _ _ _ (c .before .lacks .ensures) (c .if2 .left);
     }
 
-check-requires : tie.Need-check-requires
-check-requires c κs = search needs
-
-enum-known-why : tie.Need-enum-known-why
-enum-known-why c = search needs
-
-enum-known-p : tie.Need-enum-known-p
-enum-known-p c = search needs
-
 returns : tie.Need-returns
 returns c =
     let p = c .before .before .before in
     call-beyond (called p) (entry (p .before .before) .args .budget) _ (checked p) (c .if1 .taken)
-
-lacks-requires : tie.Need-lacks-requires
-lacks-requires c κs = search needs
 
 returns-2 : tie.Need-returns-2
 returns-2 c =
@@ -82,31 +70,12 @@ returns-3 c =
     let s = entry (w .before .before) in
     call-refused (call s) (s .args .budget) _ (rw (w .why .given .1) at (w .before .before .check .ensures))
 
-same-length : tie.Need-same-length
-same-length c = search needs
-
-same-length-2 : tie.Need-same-length-2
-same-length-2 c = search needs
-
 returns-4 : tie.Need-returns-4
 returns-4 c = let r = c .before .before .before .before in call-ends (fits (r .before .before .before)) refl (r .carry-on .ensures)
 
 pub resume-spec : {M : Type 1} → statement M
 resume-spec =
     tie.close
-    (tie.spec
-    check-requires
-    enum-known-why
-    enum-known-p
-    returns
-    lacks-requires
-    returns-2
-    slice-relend-prefix-carry-on
-    slice-aggregate-carry-on
-    slice-relend-prefix-carry-on-2
-    slice-aggregate-carry-on-2
-    carry-on-requires
-    returns-3
-    same-length
-    same-length-2
-    returns-4)
+    (tie.spec (λ c κs. search needs) (λ c. search needs) (λ c. search needs) returns (λ c κs. search needs) returns-2
+    slice-relend-prefix-carry-on slice-aggregate-carry-on slice-relend-prefix-carry-on-2 slice-aggregate-carry-on-2 carry-on-requires
+    returns-3 (λ c. search needs) (λ c. search needs) returns-4)

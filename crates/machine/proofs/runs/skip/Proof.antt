@@ -27,12 +27,6 @@ add-at c =
     let h = past-fits _ _ _ _ _ (l .loop .inv .0) (omega arith) (l .before .before .pre .0) _ (c .field-at .ensures .0) in
     omega arith
 
-add-k : tie.Need-add-k Inv-loop μ-loop
-add-k c = search needs
-
-loop-less : tie.Need-loop-less Inv-loop μ-loop
-loop-less c = search needs
-
 loop-again : tie.Need-loop-again Inv-loop μ-loop
 loop-again c =
     let l = c .before .before in
@@ -43,14 +37,4 @@ returns c = past-done _ _ _ _ _ _ (c .before .loop .inv .1) (c .loop-test .left)
 
 pub skip-spec : {M : Type 1} → statement M
 skip-spec =
-    tie.close
-    (tie.spec
-    Inv-loop
-    μ-loop
-    loop-holds
-    field-at-requires
-    add-at
-    add-k
-    loop-less
-    loop-again
-    returns)
+    tie.close (tie.spec Inv-loop μ-loop loop-holds field-at-requires add-at (λ c. search needs) (λ c. search needs) loop-again returns)

@@ -38,18 +38,6 @@ fits c =
       room = room-means _ _ _ _ _ (c .before .lacks .ensures) (c .if1 .left);
     }
 
-check-requires : tie.Need-check-requires
-check-requires c κs = search needs
-
-enum-known-why : tie.Need-enum-known-why
-enum-known-why c = search needs
-
-enum-known-p : tie.Need-enum-known-p
-enum-known-p c = search needs
-
-lacks-requires : tie.Need-lacks-requires
-lacks-requires c κs = search needs
-
 returns : tie.Need-returns
 returns c =
     let p = read (c .before) in
@@ -77,30 +65,12 @@ returns-2 c =
     let s = entry (w .before .before) in
     call-refused (call s) (s .args .budget) _ (rw (w .why .given .1) at (w .before .before .check .ensures))
 
-same-length : tie.Need-same-length
-same-length c = search needs
-
-same-length-2 : tie.Need-same-length-2
-same-length-2 c = search needs
-
 returns-3 : tie.Need-returns-3
 returns-3 c = let r = c .before .before .before .before in call-ends (fits (r .before .before .before)) refl (r .carry-on .ensures)
 
 pub start-spec : {M : Type 1} → statement M
 start-spec =
     tie.close
-    (tie.spec
-    check-requires
-    enum-known-why
-    enum-known-p
-    lacks-requires
-    returns
-    slice-relend-prefix-carry-on
-    slice-aggregate-carry-on
-    slice-relend-prefix-carry-on-2
-    slice-aggregate-carry-on-2
-    carry-on-requires
-    returns-2
-    same-length
-    same-length-2
-    returns-3)
+    (tie.spec (λ c κs. search needs) (λ c. search needs) (λ c. search needs) (λ c κs. search needs) returns slice-relend-prefix-carry-on
+    slice-aggregate-carry-on slice-relend-prefix-carry-on-2 slice-aggregate-carry-on-2 carry-on-requires returns-2 (λ c. search needs)
+    (λ c. search needs) returns-3)

@@ -22,9 +22,6 @@ turn c =
       kind = sym (c .before .field-at .ensures .0) ∙ eqb-true _ _ (c .if1 .taken);
     }
 
-or-fours-requires : tie.Need-or-fours-requires Inv-loop μ-loop
-or-fours-requires c κs = search needs
-
 loop-holds : tie.Need-loop-holds Inv-loop μ-loop
 loop-holds c = along-none (along-known (c .before .before .or-fours .ensures))
 
@@ -39,12 +36,6 @@ or-at-requires c κs = next-gate (turn (c .before))
 
 add-at : tie.Need-add-at Inv-loop μ-loop
 add-at c = let h = next-gate (turn (c .before .before .before .before)) .room in omega arith
-
-sub-more : tie.Need-sub-more Inv-loop μ-loop
-sub-more c = search needs
-
-loop-less : tie.Need-loop-less Inv-loop μ-loop
-loop-less c = search needs
 
 loop-again : tie.Need-loop-again Inv-loop μ-loop
 loop-again c = gate-done (turn (c .before .before .before .before)) (c .before .before .or-at .ensures)
@@ -64,19 +55,5 @@ returns-2 c = let l = c .before in along-then (l .before .before .before .or-fou
 pub or-run-spec : {M : Type 1} → statement M
 or-run-spec =
     tie.close
-    (tie.spec
-    Inv-loop
-    μ-loop
-    or-fours-requires
-    loop-holds
-    add-field-at
-    field-at-requires
-    or-at-requires
-    add-at
-    sub-more
-    loop-less
-    loop-again
-    same-length
-    returns
-    same-length-2
-    returns-2)
+    (tie.spec Inv-loop μ-loop (λ c κs. search needs) loop-holds add-field-at field-at-requires or-at-requires add-at (λ c. search needs)
+    (λ c. search needs) loop-again same-length returns same-length-2 returns-2)

@@ -25,9 +25,6 @@ loop-holds c = going-none (c .before .before .before .before .pre)
 step-at-requires : tie.Need-step-at-requires Inv-loop μ-loop
 step-at-requires c κs = going-ready (c .before .before .before .loop .inv) (c .before .before .loop-test .taken)
 
-sub-and-run : tie.Need-sub-and-run Inv-loop μ-loop
-sub-and-run c = search needs
-
 and-run-requires : tie.Need-and-run-requires Inv-loop μ-loop
 and-run-requires c κs =
     let s = c .before .before .before .before .before in
@@ -72,16 +69,5 @@ returns c = going-done (c .before .loop .inv) (c .loop-test .left)
 pub run-from-spec : {M : Type 1} → statement M
 run-from-spec =
     tie.close
-    (tie.spec
-    Inv-loop
-    μ-loop
-    loop-holds
-    step-at-requires
-    sub-and-run
-    and-run-requires
-    or-run-requires
-    loop-less
-    loop-again
-    same-length
-    same-length-2
-    returns)
+    (tie.spec Inv-loop μ-loop loop-holds step-at-requires (λ c. search needs) and-run-requires or-run-requires loop-less loop-again
+    same-length same-length-2 returns)

@@ -59,9 +59,6 @@ add-result c =
     let h = is-gate (found (t .before)) conjunction (t .if1 .taken) .1 .room in
     omega arith
 
-same-length : tie.Need-same-length
-same-length c = search needs
-
 returns : tie.Need-returns
 returns c =
     let t = c .before .before .before .before in
@@ -75,9 +72,6 @@ add-result-2 c =
     let t = c .before .before .before .before in
     let h = is-gate (found (t .before .before)) disjunction (t .if2 .taken) .1 .room in
     omega arith
-
-same-length-2 : tie.Need-same-length-2
-same-length-2 c = search needs
 
 returns-2 : tie.Need-returns-2
 returns-2 c =
@@ -99,9 +93,6 @@ slice-write-registers c = ones-range (found (kind (c .before))) (c .before .fiel
 add-result-3 : tie.Need-add-result-3
 add-result-3 c = let h = first-operand (found (kind (c .before))) in omega arith
 
-same-length-3 : tie.Need-same-length-3
-same-length-3 c = search needs
-
 returns-3 : tie.Need-returns-3
 returns-3 c = does-ones (found (kind (c .before))) (c .before .field-at2 .ensures .0) (c .if3 .taken)
 
@@ -118,9 +109,6 @@ slice-write-registers-2 c =
 
 add-result-4 : tie.Need-add-result-4
 add-result-4 c = let h = first-operand (found (kind (c .before .before))) in omega arith
-
-same-length-4 : tie.Need-same-length-4
-same-length-4 c = search needs
 
 returns-4 : tie.Need-returns-4
 returns-4 c =
@@ -151,9 +139,6 @@ add-result-5 c =
     let h = second-operand (found (kind (first b))) (b .before .before .if3 .left) (b .before .if4 .left) in
     omega arith
 
-same-length-5 : tie.Need-same-length-5
-same-length-5 c = search needs
-
 returns-5 : tie.Need-returns-5
 returns-5 c = does-input (operands (c .before .before)) (c .before .if5 .taken)
 
@@ -174,9 +159,6 @@ add-result-6 c =
     let b = c .before .before .before in
     let h = second-operand (found (kind (first b))) (b .before .before .if3 .left) (b .before .if4 .left) in
     omega arith
-
-same-length-6 : tie.Need-same-length-6
-same-length-6 c = search needs
 
 returns-6 : tie.Need-returns-6
 returns-6 c = does-not (operands (c .before .before .before)) (c .before .if6 .taken)
@@ -199,58 +181,15 @@ add-result-7 c =
     let h = second-operand (found (kind (first b))) (b .before .before .if3 .left) (b .before .if4 .left) in
     omega arith
 
-same-length-7 : tie.Need-same-length-7
-same-length-7 c = search needs
-
 returns-7 : tie.Need-returns-7
 returns-7 c = does-output (operands (c .before .before .before)) (last (c .before))
 
 pub step-at-spec : {M : Type 1} → statement M
 step-at-spec =
     tie.close
-    (tie.spec
-    add-field-at
-    field-at-requires
-    and-at-requires
-    add-result
-    same-length
-    returns
-    or-at-requires
-    add-result-2
-    same-length-2
-    returns-2
-    add-field-at-2
-    field-at-requires-2
-    mul-registers
-    slice-write-registers
-    add-result-3
-    same-length-3
-    returns-3
-    mul-registers-2
-    slice-write-registers-2
-    add-result-4
-    same-length-4
-    returns-4
-    add-field-at-3
-    field-at-requires-3
-    mul-registers-3
-    shared-slice-read-registers
-    mul-registers-4
-    slice-write-registers-3
-    add-result-5
-    same-length-5
-    returns-5
-    mul-registers-5
-    slice-read-registers
-    mul-registers-6
-    slice-write-registers-4
-    add-result-6
-    same-length-6
-    returns-6
-    mul-outputs
-    slice-read-outputs
-    mul-outputs-2
-    slice-write-outputs
-    add-result-7
-    same-length-7
-    returns-7)
+    (tie.spec add-field-at field-at-requires and-at-requires add-result (λ c. search needs) returns or-at-requires add-result-2
+    (λ c. search needs) returns-2 add-field-at-2 field-at-requires-2 mul-registers slice-write-registers add-result-3 (λ c. search needs)
+    returns-3 mul-registers-2 slice-write-registers-2 add-result-4 (λ c. search needs) returns-4 add-field-at-3 field-at-requires-3
+    mul-registers-3 shared-slice-read-registers mul-registers-4 slice-write-registers-3 add-result-5 (λ c. search needs) returns-5
+    mul-registers-5 slice-read-registers mul-registers-6 slice-write-registers-4 add-result-6 (λ c. search needs) returns-6 mul-outputs
+    slice-read-outputs mul-outputs-2 slice-write-outputs add-result-7 (λ c. search needs) returns-7)

@@ -12,38 +12,8 @@ use Rattle.programs.proofs.headers.read_header.Tie as tie
 returns : tie.Need-returns
 returns c = header-short _ (c .if1 .taken)
 
-field-requires : tie.Need-field-requires
-field-requires c κs = search needs
-
 returns-2 : tie.Need-returns-2
 returns-2 c = header-other _ (c .before .before .if1 .left) _ (c .before .field .ensures .0) (c .if2 .taken)
-
-field-requires-2 : tie.Need-field-requires-2
-field-requires-2 c κs = search needs
-
-field-requires-3 : tie.Need-field-requires-3
-field-requires-3 c κs = search needs
-
-field-requires-4 : tie.Need-field-requires-4
-field-requires-4 c κs = search needs
-
-field-requires-5 : tie.Need-field-requires-5
-field-requires-5 c κs = search needs
-
-field-requires-6 : tie.Need-field-requires-6
-field-requires-6 c κs = search needs
-
-mul-t11 : tie.Need-mul-t11
-mul-t11 c = search needs
-
-add-t12 : tie.Need-add-t12
-add-t12 c = search needs
-
-cast-t13 : tie.Need-cast-t13
-cast-t13 c = search needs
-
-within-requires : tie.Need-within-requires
-within-requires c κs = search needs
 
 -- what the fields say
 numbered : (c : tie.After-within) →
@@ -69,9 +39,6 @@ numbered c =
 returns-3 : tie.Need-returns-3
 returns-3 c = header-outside _ _ (numbered (c .before)) (sym (c .before .within .ensures) ∙ not-true _ (c .if3 .taken))
 
-field-requires-7 : tie.Need-field-requires-7
-field-requires-7 c κs = search needs
-
 returns-4 : tie.Need-returns-4
 returns-4 c =
     let inside = c .before .before in
@@ -87,20 +54,6 @@ returns-5 c =
 pub read-header-spec : {M : Type 1} → statement M
 read-header-spec =
     tie.close
-    (tie.spec
-    returns
-    field-requires
-    returns-2
-    field-requires-2
-    field-requires-3
-    field-requires-4
-    field-requires-5
-    field-requires-6
-    mul-t11
-    add-t12
-    cast-t13
-    within-requires
-    returns-3
-    field-requires-7
-    returns-4
-    returns-5)
+    (tie.spec returns (λ c κs. search needs) returns-2 (λ c κs. search needs) (λ c κs. search needs) (λ c κs. search needs)
+    (λ c κs. search needs) (λ c κs. search needs) (λ c. search needs) (λ c. search needs) (λ c. search needs) (λ c κs. search needs)
+    returns-3 (λ c κs. search needs) returns-4 returns-5)

@@ -23,24 +23,6 @@ cast-o c =
     let w = within-means (start .args .p) (start .pre .0) in
     omega arith
 
-put-five-requires : tie.Need-put-five-requires
-put-five-requires c κs = search needs
-
-cast-put : tie.Need-cast-put
-cast-put c = search needs
-
-put-requires : tie.Need-put-requires
-put-requires c κs = search needs
-
-cast-put-2 : tie.Need-cast-put-2
-cast-put-2 c = search needs
-
-put-requires-2 : tie.Need-put-requires-2
-put-requires-2 c κs = search needs
-
-same-length : tie.Need-same-length
-same-length c = search needs
-
 returns : tie.Need-returns
 returns c =
     let high = c .before .before in
@@ -51,14 +33,5 @@ returns c =
 pub store-header-spec : {M : Type 1} → statement M
 store-header-spec =
     tie.close
-    (tie.spec
-    cast-r
-    cast-i
-    cast-o
-    put-five-requires
-    cast-put
-    put-requires
-    cast-put-2
-    put-requires-2
-    same-length
-    returns)
+    (tie.spec cast-r cast-i cast-o (λ c κs. search needs) (λ c. search needs) (λ c κs. search needs) (λ c. search needs)
+    (λ c κs. search needs) (λ c. search needs) returns)

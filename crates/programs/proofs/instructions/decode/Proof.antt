@@ -7,21 +7,9 @@ use Rattle.programs.proofs.instructions.decode.Tie as tie
 returns : tie.Need-returns
 returns c = decode-beyond _ _ (c .if1 .taken)
 
-sub-front : tie.Need-sub-front
-sub-front c = search needs
-
-part-front-start : tie.Need-part-front-start
-part-front-start c = search needs
-
-part-front-end : tie.Need-part-front-end
-part-front-end c = search needs
-
-front-requires : tie.Need-front-requires
-front-requires c κs = search needs
-
 returns-2 : tie.Need-returns-2
 returns-2 c = decode-part _ _ _ (c .front .ensures)
 
 pub decode-spec : {M : Type 1} → statement M
 decode-spec =
-    tie.close (tie.spec returns sub-front part-front-start part-front-end front-requires returns-2)
+    tie.close (tie.spec returns (λ c. search needs) (λ c. search needs) (λ c. search needs) (λ c κs. search needs) returns-2)

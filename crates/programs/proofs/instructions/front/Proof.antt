@@ -12,53 +12,8 @@ use Rattle.programs.proofs.instructions.front.Tie as tie
 returns : tie.Need-returns
 returns c = decode-short _ (c .if1 .taken)
 
-field-requires : tie.Need-field-requires
-field-requires c κs = search needs
-
 returns-2 : tie.Need-returns-2
 returns-2 c = decode-cut _ _ (c .before .field .ensures .0) (c .before .before .if1 .left) (c .if2 .taken)
-
-field-requires-2 : tie.Need-field-requires-2
-field-requires-2 c κs = search needs
-
-cast-to : tie.Need-cast-to
-cast-to c = search needs
-
-field-requires-3 : tie.Need-field-requires-3
-field-requires-3 c κs = search needs
-
-cast-a : tie.Need-cast-a
-cast-a c = search needs
-
-field-requires-4 : tie.Need-field-requires-4
-field-requires-4 c κs = search needs
-
-cast-b : tie.Need-cast-b
-cast-b c = search needs
-
-field-requires-5 : tie.Need-field-requires-5
-field-requires-5 c κs = search needs
-
-sized-requires : tie.Need-sized-requires
-sized-requires c κs = search needs
-
-sized-requires-2 : tie.Need-sized-requires-2
-sized-requires-2 c κs = search needs
-
-sized-requires-3 : tie.Need-sized-requires-3
-sized-requires-3 c κs = search needs
-
-sized-requires-4 : tie.Need-sized-requires-4
-sized-requires-4 c κs = search needs
-
-sized-requires-5 : tie.Need-sized-requires-5
-sized-requires-5 c κs = search needs
-
-sized-requires-6 : tie.Need-sized-requires-6
-sized-requires-6 c κs = search needs
-
-sized-requires-7 : tie.Need-sized-requires-7
-sized-requires-7 c κs = search needs
 
 -- the fields as they are read, and what they say
 module _ (c : tie.After-field5) where
@@ -124,29 +79,7 @@ returns-10 c =
 pub front-spec : {M : Type 1} → statement M
 front-spec =
     tie.close
-    (tie.spec
-    returns
-    field-requires
-    returns-2
-    field-requires-2
-    cast-to
-    field-requires-3
-    cast-a
-    field-requires-4
-    cast-b
-    field-requires-5
-    sized-requires
-    sized-requires-2
-    sized-requires-3
-    sized-requires-4
-    sized-requires-5
-    sized-requires-6
-    sized-requires-7
-    returns-3
-    returns-4
-    returns-5
-    returns-6
-    returns-7
-    returns-8
-    returns-9
-    returns-10)
+    (tie.spec returns (λ c κs. search needs) returns-2 (λ c κs. search needs) (λ c. search needs) (λ c κs. search needs)
+    (λ c. search needs) (λ c κs. search needs) (λ c. search needs) (λ c κs. search needs) (λ c κs. search needs) (λ c κs. search needs)
+    (λ c κs. search needs) (λ c κs. search needs) (λ c κs. search needs) (λ c κs. search needs) (λ c κs. search needs) returns-3
+    returns-4 returns-5 returns-6 returns-7 returns-8 returns-9 returns-10)

@@ -13,57 +13,11 @@ Inv-loop program₀ at part n k₀ program k = (k ≤ n) × (n ≤ length part) 
 abbrev μ-loop : tie.MeasureT-loop
 μ-loop program₀ at part n k₀ program k = n - k
 
-sub-least : tie.Need-sub-least Inv-loop μ-loop
-sub-least c = search needs
-
-least-requires : tie.Need-least-requires Inv-loop μ-loop
-least-requires c κs = search needs
-
-loop-holds : tie.Need-loop-holds Inv-loop μ-loop
-loop-holds c = search needs
-
-shared-slice-read-program : tie.Need-shared-slice-read-program Inv-loop μ-loop
-shared-slice-read-program c = search needs
-
-add-program : tie.Need-add-program Inv-loop μ-loop
-add-program c = search needs
-
-slice-write-program : tie.Need-slice-write-program Inv-loop μ-loop
-slice-write-program c = search needs
-
-add-k : tie.Need-add-k Inv-loop μ-loop
-add-k c = search needs
-
-loop-less : tie.Need-loop-less Inv-loop μ-loop
-loop-less c = search needs
-
-loop-again : tie.Need-loop-again Inv-loop μ-loop
-loop-again c = search needs
-
-add-result : tie.Need-add-result Inv-loop μ-loop
-add-result c = search needs
-
-same-length : tie.Need-same-length Inv-loop μ-loop
-same-length c = search needs
-
 returns : tie.Need-returns Inv-loop μ-loop
 returns c = (search needs, simp length-take (omega arith))
 
 pub append-spec : {M : Type 1} → statement M
 append-spec =
     tie.close
-    (tie.spec
-    Inv-loop
-    μ-loop
-    sub-least
-    least-requires
-    loop-holds
-    shared-slice-read-program
-    add-program
-    slice-write-program
-    add-k
-    loop-less
-    loop-again
-    add-result
-    same-length
-    returns)
+    (tie.spec Inv-loop μ-loop (λ c. search needs) (λ c κs. search needs) (λ c. search needs) (λ c. search needs) (λ c. search needs)
+    (λ c. search needs) (λ c. search needs) (λ c. search needs) (λ c. search needs) (λ c. search needs) (λ c. search needs) returns)

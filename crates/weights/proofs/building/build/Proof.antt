@@ -9,9 +9,6 @@ use Rattle.weights.specs.Building.{build-sizes, build-zero, build-unhead
 use Rattle.weights.proofs.building.build.Statement.{statement}
 use Rattle.weights.proofs.building.build.Tie as tie
 
-sizes-outside-requires : tie.Need-sizes-outside-requires
-sizes-outside-requires c κs = search needs
-
 returns : tie.Need-returns
 returns c = ends-refused _ _ _ _ _ (build-sizes _ _ _ _ (sym (c .before .sizes-outside .ensures) ∙ c .if1 .taken))
 
@@ -27,15 +24,6 @@ returns-2 c =
     (build-zero _ _ _ _ (sym (sized .before .sizes-outside .ensures) ∙ sized .if1 .left)
     (sym (c .before .sum-of .ensures .0) ∙ c .if2 .taken))
 
-write-header-requires : tie.Need-write-header-requires
-write-header-requires c κs = search needs
-
-enum-known-why : tie.Need-enum-known-why
-enum-known-why c = search needs
-
-enum-known-length : tie.Need-enum-known-length
-enum-known-length c = search needs
-
 divide-rows-requires : tie.Need-divide-rows-requires
 divide-rows-requires c κs =
     let wrote = c .before .before .before .before .before .before in
@@ -43,9 +31,6 @@ divide-rows-requires c κs =
     let file = sum .before .before .before .before .before .args .file .now in
     let head = head-room _ _ _ _ file _ refl (rw (c .before .before .length .given .1) at (wrote .write-header .ensures)) in
     (sum .sum-of .ensures .0, sum .sum-of .ensures .1, head .1)
-
-same-length : tie.Need-same-length
-same-length c = search needs
 
 returns-3 : tie.Need-returns-3
 returns-3 c =
@@ -55,9 +40,6 @@ returns-3 c =
     build-unheaded _ _ _ _ (sized .before .before .before .before .args .file .now) refl
     (sym (sized .before .sizes-outside .ensures) ∙ sized .if1 .left) (λ z. some .if2 .left (some .before .sum-of .ensures .0 ∙ z)) _ _
     (rw (c .before .why .given .1) at (wrote .write-header .ensures))
-
-same-length-2 : tie.Need-same-length-2
-same-length-2 c = search needs
 
 returns-4 : tie.Need-returns-4
 returns-4 c =
@@ -73,16 +55,5 @@ returns-4 c =
 pub build-spec : {M : Type 1} → statement M
 build-spec =
     tie.close
-    (tie.spec
-    sizes-outside-requires
-    returns
-    sum-of-requires
-    returns-2
-    write-header-requires
-    enum-known-why
-    enum-known-length
-    divide-rows-requires
-    same-length
-    returns-3
-    same-length-2
-    returns-4)
+    (tie.spec (λ c κs. search needs) returns sum-of-requires returns-2 (λ c κs. search needs) (λ c. search needs) (λ c. search needs)
+    divide-rows-requires (λ c. search needs) returns-3 (λ c. search needs) returns-4)

@@ -21,20 +21,8 @@ Inv-loop usage weights s n file₀ bytes v₀ v-end file v =
 abbrev μ-loop : tie.MeasureT-loop
 μ-loop usage weights s n file₀ bytes v₀ v-end file v = length weights - v
 
-width-requires : tie.Need-width-requires Inv-loop μ-loop
-width-requires c κs = search needs
-
 loop-holds : tie.Need-loop-holds Inv-loop μ-loop
 loop-holds c = (search needs, search needs, blocks-none _ _ _)
-
-mul-counted-weight : tie.Need-mul-counted-weight Inv-loop μ-loop
-mul-counted-weight c = search needs
-
-shared-slice-read-counted-weight : tie.Need-shared-slice-read-counted-weight Inv-loop μ-loop
-shared-slice-read-counted-weight c = search needs
-
-counted-weight-requires : tie.Need-counted-weight-requires Inv-loop μ-loop
-counted-weight-requires c κs = search needs
 
 mul-divide-row : tie.Need-mul-divide-row Inv-loop μ-loop
 mul-divide-row c =
@@ -58,12 +46,6 @@ divide-row-requires c κs =
       omega (arith, row-place _ _ _ _ _ (turn .loop-test .taken) (at .inv .1) (s .pre .2), at .inv .2 .long),
     )
 
-add-v : tie.Need-add-v Inv-loop μ-loop
-add-v c = search needs
-
-loop-less : tie.Need-loop-less Inv-loop μ-loop
-loop-less c = search needs
-
 loop-again : tie.Need-loop-again Inv-loop μ-loop
 loop-again c =
     let counted = c .before .before .before .before in
@@ -86,19 +68,5 @@ returns c = blocks-done _ _ _ _ _ _ (c .before .loop .inv .0) (c .loop-test .lef
 pub divide-rows-spec : {M : Type 1} → statement M
 divide-rows-spec =
     tie.close
-    (tie.spec
-    Inv-loop
-    μ-loop
-    width-requires
-    loop-holds
-    mul-counted-weight
-    shared-slice-read-counted-weight
-    counted-weight-requires
-    mul-divide-row
-    add-divide-row
-    divide-row-requires
-    add-v
-    loop-less
-    loop-again
-    same-length
-    returns)
+    (tie.spec Inv-loop μ-loop (λ c κs. search needs) loop-holds (λ c. search needs) (λ c. search needs) (λ c κs. search needs)
+    mul-divide-row add-divide-row divide-row-requires (λ c. search needs) (λ c. search needs) loop-again same-length returns)

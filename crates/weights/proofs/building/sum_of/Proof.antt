@@ -20,25 +20,10 @@ loop-holds : tie.Need-loop-holds Inv-loop μ-loop
 unfolding sumTo
 loop-holds c = search needs
 
-mul-counted-weight : tie.Need-mul-counted-weight Inv-loop μ-loop
-mul-counted-weight c = search needs
-
-shared-slice-read-counted-weight : tie.Need-shared-slice-read-counted-weight Inv-loop μ-loop
-shared-slice-read-counted-weight c = search needs
-
-counted-weight-requires : tie.Need-counted-weight-requires Inv-loop μ-loop
-counted-weight-requires c κs = search needs
-
 add-s : tie.Need-add-s Inv-loop μ-loop
 add-s c =
     let read = c .before in
     record { fits = omega (arith, read .shared-slice-known2 .given (read .before .before .loop .v), c .counted-weight .ensures) }
-
-add-v : tie.Need-add-v Inv-loop μ-loop
-add-v c = search needs
-
-loop-less : tie.Need-loop-less Inv-loop μ-loop
-loop-less c = search needs
 
 loop-again : tie.Need-loop-again Inv-loop μ-loop
 loop-again c =
@@ -56,15 +41,5 @@ returns c = (sum-done _ _ _ _ (c .before .loop .inv .0) (c .loop-test .left) (c 
 pub sum-of-spec : {M : Type 1} → statement M
 sum-of-spec =
     tie.close
-    (tie.spec
-    Inv-loop
-    μ-loop
-    loop-holds
-    mul-counted-weight
-    shared-slice-read-counted-weight
-    counted-weight-requires
-    add-s
-    add-v
-    loop-less
-    loop-again
-    returns)
+    (tie.spec Inv-loop μ-loop loop-holds (λ c. search needs) (λ c. search needs) (λ c κs. search needs) add-s (λ c. search needs)
+    (λ c. search needs) loop-again returns)

@@ -21,16 +21,10 @@ abbrev μ-loop : tie.MeasureT-loop
 loop-holds : tie.Need-loop-holds Inv-loop μ-loop
 loop-holds c = (search needs, spelt-none _ _, rest-none _ _, search needs)
 
-divide-bit-requires : tie.Need-divide-bit-requires Inv-loop μ-loop
-divide-bit-requires c κs = search needs
-
 mul-byte : tie.Need-mul-byte Inv-loop μ-loop
 mul-byte c =
     let turn = c .before in
     record { fits = omega (arith, spelt-room _ _ _ 8 _ (turn .loop-test .taken) (turn .before .loop .inv .1)) }
-
-kept-requires : tie.Need-kept-requires Inv-loop μ-loop
-kept-requires c κs = search needs
 
 add-byte : tie.Need-add-byte Inv-loop μ-loop
 add-byte c =
@@ -39,12 +33,6 @@ add-byte c =
     let b = kept-is _ _ _ _ _ _ _ (at .inv .2) (c .before .divide-bit .ensures .bit-is) (c .kept .ensures) in
     let l : c .kept .result ≤ 1 = rw b (padded-le _ _ _ (λ i h. quotient-le _ _ i)) in
     record { fits = omega (arith, spelt-room _ _ _ 8 _ (turn .loop-test .taken) (at .inv .1)) }
-
-add-t : tie.Need-add-t Inv-loop μ-loop
-add-t c = search needs
-
-loop-less : tie.Need-loop-less Inv-loop μ-loop
-loop-less c = search needs
 
 loop-again : tie.Need-loop-again Inv-loop μ-loop
 loop-again c =
@@ -69,15 +57,5 @@ returns c =
 pub divide-byte-spec : {M : Type 1} → statement M
 divide-byte-spec =
     tie.close
-    (tie.spec
-    Inv-loop
-    μ-loop
-    loop-holds
-    divide-bit-requires
-    mul-byte
-    kept-requires
-    add-byte
-    add-t
-    loop-less
-    loop-again
-    returns)
+    (tie.spec Inv-loop μ-loop loop-holds (λ c κs. search needs) mul-byte (λ c κs. search needs) add-byte (λ c. search needs)
+    (λ c. search needs) loop-again returns)

@@ -19,32 +19,8 @@ Inv-loop w s n file₀ at rest₀ bytes q₀ file rest q =
 abbrev μ-loop : tie.MeasureT-loop
 μ-loop w s n file₀ at rest₀ bytes q₀ file rest q = bytes - q
 
-width-requires : tie.Need-width-requires Inv-loop μ-loop
-width-requires c κs = search needs
-
 loop-holds : tie.Need-loop-holds Inv-loop μ-loop
 loop-holds c = (search needs, search needs, rest-none _ _, search needs, upto-none _ _ _)
-
-mul-divide-byte : tie.Need-mul-divide-byte Inv-loop μ-loop
-mul-divide-byte c = search needs
-
-sub-divide-byte : tie.Need-sub-divide-byte Inv-loop μ-loop
-sub-divide-byte c = search needs
-
-divide-byte-requires : tie.Need-divide-byte-requires Inv-loop μ-loop
-divide-byte-requires c κs = search needs
-
-add-file : tie.Need-add-file Inv-loop μ-loop
-add-file c = search needs
-
-slice-write-file : tie.Need-slice-write-file Inv-loop μ-loop
-slice-write-file c = search needs
-
-add-q : tie.Need-add-q Inv-loop μ-loop
-add-q c = search needs
-
-loop-less : tie.Need-loop-less Inv-loop μ-loop
-loop-less c = search needs
 
 loop-again : tie.Need-loop-again Inv-loop μ-loop
 loop-again c =
@@ -69,18 +45,5 @@ returns c =
 pub divide-row-spec : {M : Type 1} → statement M
 divide-row-spec =
     tie.close
-    (tie.spec
-    Inv-loop
-    μ-loop
-    width-requires
-    loop-holds
-    mul-divide-byte
-    sub-divide-byte
-    divide-byte-requires
-    add-file
-    slice-write-file
-    add-q
-    loop-less
-    loop-again
-    same-length
-    returns)
+    (tie.spec Inv-loop μ-loop (λ c κs. search needs) loop-holds (λ c. search needs) (λ c. search needs) (λ c κs. search needs)
+    (λ c. search needs) (λ c. search needs) (λ c. search needs) (λ c. search needs) loop-again same-length returns)

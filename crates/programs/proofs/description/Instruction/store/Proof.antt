@@ -4,64 +4,40 @@ use Rattle.programs.specs.Instructions.{instructionBytes}
 use Rattle.programs.proofs.description.Instruction.store.Statement.{statement}
 use Rattle.programs.proofs.description.Instruction.store.Tie as tie
 
-enum-known-self : tie.Need-enum-known-self
-enum-known-self c = search needs
-
 put-three-requires : tie.Need-put-three-requires
 put-three-requires c κs =
     let arm = c .before .before in
     (rw (arm .self .given .1) at (arm .before .before .before .pre), search needs, search needs)
-
-enum-known-self-2 : tie.Need-enum-known-self-2
-enum-known-self-2 c = search needs
 
 put-three-requires-2 : tie.Need-put-three-requires-2
 put-three-requires-2 c κs =
     let arm = c .before .before in
     (rw (arm .self2 .given .1) at (arm .before .before .before .pre), search needs, search needs)
 
-enum-known-self-3 : tie.Need-enum-known-self-3
-enum-known-self-3 c = search needs
-
 put-four-requires : tie.Need-put-four-requires
 put-four-requires c κs =
     let arm = c .before .before in
     (rw (arm .self3 .given .1) at (arm .before .before .before .pre), search needs, search needs)
-
-enum-known-self-4 : tie.Need-enum-known-self-4
-enum-known-self-4 c = search needs
 
 put-four-requires-2 : tie.Need-put-four-requires-2
 put-four-requires-2 c κs =
     let arm = c .before .before in
     (rw (arm .self4 .given .1) at (arm .before .before .before .pre), search needs, search needs)
 
-enum-known-self-5 : tie.Need-enum-known-self-5
-enum-known-self-5 c = search needs
-
 put-five-requires : tie.Need-put-five-requires
 put-five-requires c κs =
     let arm = c .before .before in
     (rw (arm .self5 .given .1) at (arm .before .before .before .pre), search needs, search needs)
-
-enum-known-self-6 : tie.Need-enum-known-self-6
-enum-known-self-6 c = search needs
 
 put-five-requires-2 : tie.Need-put-five-requires-2
 put-five-requires-2 c κs =
     let arm = c .before .before in
     (rw (arm .self6 .given .1) at (arm .before .before .before .pre), search needs, search needs)
 
-enum-known-self-7 : tie.Need-enum-known-self-7
-enum-known-self-7 c = search needs
-
 put-four-requires-3 : tie.Need-put-four-requires-3
 put-four-requires-3 c κs =
     let arm = c .before .before in
     (rw (arm .self7 .given .1) at (arm .before .before .before .pre), search needs, search needs)
-
-same-length : tie.Need-same-length
-same-length c = search needs
 
 returns : tie.Need-returns
 unfolding instructionBytes
@@ -69,17 +45,11 @@ returns c =
     let put = c .before .before in
     rw (put .before .before .before .self .given .1) (put .put-three .ensures)
 
-same-length-2 : tie.Need-same-length-2
-same-length-2 c = search needs
-
 returns-2 : tie.Need-returns-2
 unfolding instructionBytes
 returns-2 c =
     let put = c .before .before in
     rw (put .before .before .before .self2 .given .1) (put .put-three2 .ensures)
-
-same-length-3 : tie.Need-same-length-3
-same-length-3 c = search needs
 
 returns-3 : tie.Need-returns-3
 unfolding instructionBytes
@@ -87,17 +57,11 @@ returns-3 c =
     let put = c .before .before in
     rw (put .before .before .before .self3 .given .1) (put .put-four .ensures)
 
-same-length-4 : tie.Need-same-length-4
-same-length-4 c = search needs
-
 returns-4 : tie.Need-returns-4
 unfolding instructionBytes
 returns-4 c =
     let put = c .before .before in
     rw (put .before .before .before .self4 .given .1) (put .put-four2 .ensures)
-
-same-length-5 : tie.Need-same-length-5
-same-length-5 c = search needs
 
 returns-5 : tie.Need-returns-5
 unfolding instructionBytes
@@ -105,17 +69,11 @@ returns-5 c =
     let put = c .before .before in
     rw (put .before .before .before .self5 .given .1) (put .put-five .ensures)
 
-same-length-6 : tie.Need-same-length-6
-same-length-6 c = search needs
-
 returns-6 : tie.Need-returns-6
 unfolding instructionBytes
 returns-6 c =
     let put = c .before .before in
     rw (put .before .before .before .self6 .given .1) (put .put-five2 .ensures)
-
-same-length-7 : tie.Need-same-length-7
-same-length-7 c = search needs
 
 returns-7 : tie.Need-returns-7
 unfolding instructionBytes
@@ -126,32 +84,7 @@ returns-7 c =
 pub store-spec : {M : Type 1} → statement M
 store-spec =
     tie.close
-    (tie.spec
-    enum-known-self
-    put-three-requires
-    enum-known-self-2
-    put-three-requires-2
-    enum-known-self-3
-    put-four-requires
-    enum-known-self-4
-    put-four-requires-2
-    enum-known-self-5
-    put-five-requires
-    enum-known-self-6
-    put-five-requires-2
-    enum-known-self-7
-    put-four-requires-3
-    same-length
-    returns
-    same-length-2
-    returns-2
-    same-length-3
-    returns-3
-    same-length-4
-    returns-4
-    same-length-5
-    returns-5
-    same-length-6
-    returns-6
-    same-length-7
-    returns-7)
+    (tie.spec (λ c. search needs) put-three-requires (λ c. search needs) put-three-requires-2 (λ c. search needs) put-four-requires
+    (λ c. search needs) put-four-requires-2 (λ c. search needs) put-five-requires (λ c. search needs) put-five-requires-2
+    (λ c. search needs) put-four-requires-3 (λ c. search needs) returns (λ c. search needs) returns-2 (λ c. search needs) returns-3
+    (λ c. search needs) returns-4 (λ c. search needs) returns-5 (λ c. search needs) returns-6 (λ c. search needs) returns-7)
