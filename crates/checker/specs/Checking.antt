@@ -5,7 +5,7 @@ use mathlib.Core.Bool.{Bool, true, false, not}
 use mathlib.Core.List.{List}
 use native.Mathlib.Omega.{arith}
 use lib.ListN.{length, getD, drop, replicate, length-replicate}
-use Rattle.laws.specs.Sums.{any, any-more, any-found}
+use Rattle.laws.specs.Sums.{any}
 use Rattle.laws.specs.Outcome.{Outcome, refused, gives, refuse, _>>_, _>>=_, mapped, bound, gives-inj}
 use Rattle.programs.specs.Limits.{most-registers, most-outputs, within, unwritten, unset}
 use Rattle.programs.specs.Instructions.{uses, lengthOf}
@@ -18,17 +18,6 @@ use Rattle.checker.specs.Checks.{Code, instructionOf, codeOf, nothing, c
 use Rattle.checker.specs.Operands.{flagged, Flags, admit-room}
 use Rattle.checker.specs.GateRuns.{restOf, Passes, mapped-after, rest-more, rest-refused, rest-left, rest-unset, rest-done}
 
--- whether one of the first flags is missing, tried flag by flag
-module _ (s : List Bool) where
-  pub missing-found : (n o : ℕ) → o < n → not (getD s o false) ≡ true → true ≡ any n (λ k. not (flagged s k))
-  unfolding flagged
-  missing-found n o l e = sym (any-found n o (λ k. not (flagged s k)) l e)
-
-  pub missing-more : (o : ℕ) → not (getD s o false) ≡ false → any o (λ k. not (flagged s k)) ≡ false →
-      any (o + 1) (λ k. not (flagged s k)) ≡ false
-  unfolding flagged
-  missing-more o e q = any-more o (λ k. not (flagged s k)) e q
-
 -- ---- the whole body
 pub record Checking (file : List ℕ) (p : Program) (n at : ℕ) (w s : List Bool) : Type 0 where
   pub same : restOf file p (flagged w) (flagged s) n at ≡ restOf file p nothing nothing (p .count) header-length
@@ -37,7 +26,6 @@ pub record Checking (file : List ℕ) (p : Program) (n at : ℕ) (w s : List Boo
   pub wide : length s ≡ most-outputs
 
 fresh-flags : (n : ℕ) → flagged (replicate n false) ≡ nothing
-unfolding flagged
 fresh-flags n = fun-ext (λ r. by n r)
   where
     by : (n r : ℕ) → getD (replicate n false) r false ≡ false

@@ -66,7 +66,6 @@ pub record SoundGate (file : List ℕ) (at registers : ℕ) (w : List Bool) : Ty
 
 pub sound : (file : List ℕ) (at registers to a b : ℕ) (w : List Bool) → to ≡ firstOf file at → a ≡ secondOf file at → b ≡ thirdOf file at →
     to < registers → a < registers → b < registers → (getD w a false && getD w b false) ≡ true → SoundGate file at registers w
-unfolding flagged
 sound file at registers to a b w e q r l m n f =
     let s = both (getD w a false) (getD w b false) f in
     record {
