@@ -1,5 +1,5 @@
 -- Where instructions stand in bytes, for code that goes through them by kind and length. Assumes nothing.
-use Prim.Native.Nat.{ℕ, zero, suc, _+_, _-_, _≤_, _<_}
+use Prim.Native.Nat.{ℕ, zero, suc, _+_, _≤_, _<_}
 use mathlib.Core.Path.{_≡_, refl, sym, _∙_}
 use mathlib.Core.List.{List, [], _∷_}
 use mathlib.Core.Logic.{⊎-elim}
@@ -10,8 +10,8 @@ use lib.Seq.{drop-drop}
 use Rattle.laws.specs.Lists.{Each}
 use Rattle.laws.specs.Outcome.{Outcome, refused, gives, gives-inj}
 use Rattle.fields.specs.Fields.{fieldOf}
-use Rattle.programs.specs.Instructions.{uses, kindOf, lengthOf, ofKind, decodeOf}
-use Rattle.programs.specs.Inverse.{field-drop, length-some, decode-reads, named-kind}
+use Rattle.programs.specs.Instructions.{uses, kindOf, lengthOf, ofKind, decodeOf, decodeAt}
+use Rattle.programs.specs.Inverse.{field-drop, length-some, decode-reads, reads-decode, named-kind}
 use Rattle.programs.specs.declared.description.Instruction.{Instruction}
 use Rattle.programs.specs.declared.description.Instruction.the-variants.{Ones, Zero, Input, Not, And, Or, Output}
 
@@ -109,6 +109,17 @@ reads-stands file at i e =
       long = rw (field-drop at file 0, z) at (r .long);
       named = rw (field-drop at file 2, field-drop at file 4, field-drop at file 6, field-drop at file 8) at (r .named);
     }
+
+pub decodes : (file : List ℕ) (at : ℕ) (i : Instruction) → at + lengthOf i ≤ length file → fieldOf file at ≡ lengthOf i →
+    namedAt file at ≡ gives i → gives i ≡ decodeAt file at
+unfolding decodeAt
+decodes file at i room long e =
+    let z : at + 0 ≡ at = omega arith in
+    sym (reads-decode (drop at file) i (record {
+      room = omega (arith, length-drop at file);
+      long = rw (field-drop at file 0, z) long;
+      named = rw (field-drop at file 2, field-drop at file 4, field-drop at file 6, field-drop at file 8) e;
+    }))
 
 -- ---- instructions one after another
 pub read-first : (n : ℕ) (bytes : List ℕ) (i : Instruction) → decodeOf bytes ≡ gives i →

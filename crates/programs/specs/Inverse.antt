@@ -59,6 +59,17 @@ decode-reads bytes i e =
       named = c3 .1 ∙ ap gives q;
     }
 
+pub reads-decode : (bytes : List ℕ) (i : Instruction) → Reads bytes i → decodeOf bytes ≡ gives i
+unfolding decodeOf sizedOf
+reads-decode bytes i r =
+    rw (
+      le-ltb (length bytes) 4 (omega (arith, r .room, length-some i)),
+      r .long,
+      le-ltb (length bytes) (lengthOf i) (r .room),
+      r .named,
+      eq-eqb (lengthOf i) (lengthOf i) refl,
+    )
+
 -- ---- the table read both ways
 -- what a kind and its operands say of the instruction that they name
 pub record Named (k a b d : ℕ) (i : Instruction) : Type 0 where
@@ -113,23 +124,12 @@ header-reads file p e =
 field-back : (x : ℕ) → x % 256 + 256 * (x / 256) ≡ x
 field-back x = omega arith
 
-module _ (i : Instruction) (rest : List ℕ) where
-  abbrev ahead : List ℕ
-  ahead = instructionBytes i ++ rest
-
-  read-back : fieldOf ahead 0 ≡ lengthOf i → ofKind (fieldOf ahead 2) (fieldOf ahead 4) (fieldOf ahead 6) (fieldOf ahead 8) ≡ gives i →
-      decodeOf ahead ≡ gives i
-  unfolding decodeOf sizedOf
-  read-back l k =
-      let long : length ahead ≡ lengthOf i + length rest =
-      length-append (instructionBytes i) rest ∙ ap (λ (n : ℕ). n + length rest) (length-instruction i) in
-      rw (
-        le-ltb (length ahead) 4 (omega (arith, length-some i)),
-        l,
-        le-ltb (length ahead) (lengthOf i) (omega arith),
-        k,
-        eq-eqb (lengthOf i) (lengthOf i) refl,
-      )
+read-back : (i : Instruction) (rest : List ℕ) → let ahead = instructionBytes i ++ rest in fieldOf ahead 0 ≡ lengthOf i →
+    ofKind (fieldOf ahead 2) (fieldOf ahead 4) (fieldOf ahead 6) (fieldOf ahead 8) ≡ gives i → decodeOf ahead ≡ gives i
+read-back i rest l k =
+    let room : lengthOf i ≤ length (instructionBytes i ++ rest) =
+    omega (arith, length-append (instructionBytes i) rest, length-instruction i) in
+    reads-decode (instructionBytes i ++ rest) i (record { room = room; long = l; named = k })
 
 pub decode-written : (i : Instruction) (rest : List ℕ) → decodeOf (instructionBytes i ++ rest) ≡ gives i
 unfolding instructionBytes recordBytes fieldOf

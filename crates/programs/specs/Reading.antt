@@ -93,9 +93,6 @@ module _ (bytes : List ℕ) (len : ℕ) (is-len : len ≡ fieldOf bytes 0) (h : 
     decode-kind =
         rw (le-ltb (length bytes) 4 h, le-ltb (length bytes) (fieldOf bytes 0) (omega arith), is-len, is-to, is-a, is-b, is-kind)
 
-    pub decode-as : (i : Instruction) (o : Outcome Instruction) → ofKind kind to a b ≡ gives i → o ≡ sizedOf len i → o ≡ decodeOf bytes
-    decode-as i o e q = q ∙ sym (decode-kind ∙ rw e)
-
 pub no-kind : (k a b d : ℕ) → (k ≡ 1 → ⊥) → (k ≡ 2 → ⊥) → (k ≡ 3 → ⊥) → (k ≡ 4 → ⊥) → (k ≡ 5 → ⊥) → (k ≡ 6 → ⊥) → (k ≡ 7 → ⊥) →
     ofKind k a b d ≡ refused 7
 no-kind k a b d n1 n2 n3 n4 n5 n6 n7 =
