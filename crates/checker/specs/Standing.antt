@@ -11,7 +11,7 @@ use Rattle.laws.specs.Lists.{Each}
 use Rattle.laws.specs.Outcome.{Outcome, refused, gives, gives-inj}
 use Rattle.fields.specs.Fields.{fieldOf}
 use Rattle.programs.specs.Instructions.{uses, kindOf, lengthOf, ofKind, decodeOf, decodeAt}
-use Rattle.programs.specs.Inverse.{field-drop, length-some, decode-reads, reads-decode, named-kind}
+use Rattle.programs.specs.Inverse.{field-drop, kind-says, decode-reads, reads-decode, named}
 use Rattle.programs.specs.declared.description.Instruction.{Instruction}
 use Rattle.programs.specs.declared.description.Instruction.the-variants.{Ones, Zero, Input, Not, And, Or, Output}
 
@@ -105,7 +105,7 @@ reads-stands file at i e =
     let z : at + 0 ≡ at = omega arith in
     record {
       reads = e;
-      room = omega (arith, r .room, length-drop at file, length-some i);
+      room = omega (arith, r .room, length-drop at file, kind-says i .0);
       long = rw (field-drop at file 0, z) at (r .long);
       named = rw (field-drop at file 2, field-drop at file 4, field-drop at file 6, field-drop at file 8) at (r .named);
     }
@@ -156,18 +156,9 @@ formed-less (suc m) (suc n) nr ni nq bytes l h =
     onGives-map (decodeOf bytes) _ _ (λ i g. (g .0, formed-less m n nr ni nq (drop (lengthOf i) bytes) (omega arith) (g .1))) h
 
 -- ---- the kind tells the instruction
-kind-says : (i : Instruction) → (0 < kindOf i) × (kindOf i ≤ 7) × (2 < kindOf i → 8 ≤ lengthOf i)
-kind-says (Ones to) = (omega arith, omega arith, λ l. omega arith)
-kind-says (Zero to) = (omega arith, omega arith, λ l. omega arith)
-kind-says (Input to n) = (omega arith, omega arith, λ l. omega arith)
-kind-says (Not to a) = (omega arith, omega arith, λ l. omega arith)
-kind-says (And to a b) = (omega arith, omega arith, λ l. omega arith)
-kind-says (Or to a b) = (omega arith, omega arith, λ l. omega arith)
-kind-says (Output o a) = (omega arith, omega arith, λ l. omega arith)
-
 module _ (file : List ℕ) (at nr ni nq : ℕ) (r : ReadyAt file at nr ni nq) where
   pub ready-room : at + 6 ≤ length file
-  ready-room = omega (arith, r .stands .room, length-some (r .i))
+  ready-room = omega (arith, r .stands .room, kind-says (r .i) .0)
 
   -- the instruction that the kind's clause says is the one that stands there
   by-kind : {i : Instruction} → namedAt file at ≡ gives i → Stands file at i × InRange nr ni nq i
@@ -181,7 +172,9 @@ module _ (file : List ℕ) (at nr ni nq : ℕ) (r : ReadyAt file at nr ni nq) wh
     is-named e q = by-kind (rw (sym is-k ∙ e) q)
 
     kind-is : k ≡ kindOf (r .i)
-    kind-is = is-k ∙ named-kind (fieldOf file (at + 2)) (firstOf file at) (secondOf file at) (thirdOf file at) (r .i) (r .stands .named)
+    kind-is =
+        let bytes = drop at file in
+        is-k ∙ rw (field-drop at file 2) at (named bytes (r .i) (decode-reads bytes (r .i) (r .stands .reads)) .kind)
 
     pub is-ones : k ≡ 1 → Stands file at (Ones (firstOf file at)) × (firstOf file at < nr)
     is-ones e = let s = is-named e refl in (s .0, s .1 .0 .0)
@@ -214,7 +207,7 @@ module _ (file : List ℕ) (at nr ni nq : ℕ) (r : ReadyAt file at nr ni nq) wh
 
     -- all but ONES and ZERO have a second operand
     pub second-room : (k ≡ 1 → ⊥) → (k ≡ 2 → ⊥) → at + 8 ≤ length file
-    second-room n1 n2 = omega (arith, r .stands .room, kind-says (r .i) .2 (omega (arith, kind-is, kind-says (r .i))))
+    second-room n1 n2 = omega (arith, r .stands .room, kind-says (r .i) .3 (omega (arith, kind-is, kind-says (r .i))))
 
 -- ---- four gates of one kind, one after another
 pub record Four (file : List ℕ) (at kind : ℕ) : Type 0 where

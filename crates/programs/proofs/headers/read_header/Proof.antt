@@ -2,18 +2,19 @@
 use borrow.Author.Needs.{needs}
 use mathlib.Core.Path.{_≡_, sym, _∙_}
 use Prim.Native.Nat.{_+_, _*_}
-use borrow.Author.Tests.{not-true, not-false}
+use borrow.Author.Tests.{lt-ltb, le-ltb, ne-eqb, not-true, not-false}
 use Rattle.programs.specs.Header.{headerOf}
-use Rattle.programs.specs.Reading.{afterKind, header-short, header-other, numbers-are, header-numbers}
-use Rattle.programs.specs.Reading.{header-outside, header-length-wrong, header-read}
+use Rattle.programs.specs.Reading.{afterKind, numbers-are, header-numbers, header-outside, header-length-wrong, header-read}
 use Rattle.programs.proofs.headers.read_header.Statement.{statement}
 use Rattle.programs.proofs.headers.read_header.Tie as tie
 
 returns : tie.Need-returns
-returns c = header-short _ (c .if1 .taken)
+unfolding headerOf
+returns c = rw (lt-ltb _ _ (c .if1 .taken))
 
 returns-2 : tie.Need-returns-2
-returns-2 c = header-other _ (c .before .before .if1 .left) _ (c .before .field .ensures .0) (c .if2 .taken)
+unfolding headerOf
+returns-2 c = rw (le-ltb _ _ (c .before .before .if1 .left), ← (c .before .field .ensures .0), ne-eqb _ _ (c .if2 .taken))
 
 -- what the fields say
 numbered : (c : tie.After-within) →
@@ -32,7 +33,7 @@ numbered c =
     let i = o .before in
     let r = i .before in
     let kind = r .before .before in
-    header-numbers _ (kind .before .if1 .left) _ (kind .field .ensures .0) (r .before .if2 .left) _
+    header-numbers _ (kind .before .if1 .left) (sym (kind .field .ensures .0) ∙ r .before .if2 .left) _
     (numbers-are _ _ _ _ _ _ (r .field2 .ensures .0) (i .field3 .ensures .0) (o .field4 .ensures .0) (low .field5 .ensures .0)
     (high .field6 .ensures .0))
 
