@@ -49,77 +49,132 @@ pub record Standing (n : ℕ) (bytes : List ℕ) : Type 0 where
   pub formed : Formed n nr ni nq bytes
 
 -- ---- one instruction
--- the operands of an instruction that stands at a byte of a file, and the instruction that its fields name
-abbrev pub firstOf : List ℕ → ℕ → ℕ
-firstOf file at = fieldOf file (at + 4)
+module _ (file : List ℕ) (at : ℕ) where
+  -- the operands of an instruction that stands at a byte of a file, and the instruction that its fields name
+  abbrev pub firstOf : ℕ
+  firstOf = fieldOf file (at + 4)
 
-abbrev pub secondOf : List ℕ → ℕ → ℕ
-secondOf file at = fieldOf file (at + 6)
+  abbrev pub secondOf : ℕ
+  secondOf = fieldOf file (at + 6)
 
-abbrev pub thirdOf : List ℕ → ℕ → ℕ
-thirdOf file at = fieldOf file (at + 8)
+  abbrev pub thirdOf : ℕ
+  thirdOf = fieldOf file (at + 8)
 
-abbrev pub namedAt : List ℕ → ℕ → Outcome Instruction
-namedAt file at = ofKind (fieldOf file (at + 2)) (firstOf file at) (secondOf file at) (thirdOf file at)
+  abbrev pub namedAt : Outcome Instruction
+  namedAt = ofKind (fieldOf file (at + 2)) firstOf secondOf thirdOf
 
--- an AND or an OR is named there: an instruction of three operands
-pub record GateNamed (file : List ℕ) (at : ℕ) : Type 0 where
-  pub i : Instruction
-  pub named : namedAt file at ≡ gives i
-  pub long : lengthOf i ≡ 10
-  pub used : uses i ≡ record { reads = secondOf file at ∷ thirdOf file at ∷ []; writes = firstOf file at ∷ []; takes = []; sets = [] }
+  -- an AND or an OR is named there: an instruction of three operands
+  pub record GateNamed : Type 0 where
+    pub i : Instruction
+    pub named : namedAt ≡ gives i
+    pub long : lengthOf i ≡ 10
+    pub used : uses i ≡ record { reads = secondOf ∷ thirdOf ∷ []; writes = firstOf ∷ []; takes = []; sets = [] }
 
--- it stands at a byte of a file
-pub record Stands (file : List ℕ) (at : ℕ) (i : Instruction) : Type 0 where
-  pub reads : decodeOf (drop at file) ≡ gives i
-  pub room : at + lengthOf i ≤ length file
-  pub long : fieldOf file at ≡ lengthOf i
-  pub named : namedAt file at ≡ gives i
+  -- it stands at a byte of a file
+  pub record Stands (i : Instruction) : Type 0 where
+    pub reads : decodeOf (drop at file) ≡ gives i
+    pub room : at + lengthOf i ≤ length file
+    pub long : fieldOf file at ≡ lengthOf i
+    pub named : namedAt ≡ gives i
 
--- some instruction stands there, with its operands in range
-pub record ReadyAt (file : List ℕ) (at nr ni nq : ℕ) : Type 0 where
-  pub i : Instruction
-  pub stands : Stands file at i
-  pub range : InRange nr ni nq i
+  -- some instruction stands there, with its operands in range
+  pub record ReadyAt (nr ni nq : ℕ) : Type 0 where
+    pub i : Instruction
+    pub stands : Stands i
+    pub range : InRange nr ni nq i
 
--- an AND or an OR stands there, with its operands in range
-pub record Gate (file : List ℕ) (at nr : ℕ) : Type 0 where
-  pub room : at + 10 ≤ length file
-  pub into : firstOf file at < nr
-  pub left : secondOf file at < nr
-  pub right : thirdOf file at < nr
+  -- an AND or an OR stands there, with its operands in range
+  pub record Gate (nr : ℕ) : Type 0 where
+    pub room : at + 10 ≤ length file
+    pub into : firstOf < nr
+    pub left : secondOf < nr
+    pub right : thirdOf < nr
 
-pub gate-named : (file : List ℕ) (at kind : ℕ) → 5 ≤ kind → kind ≤ 6 → fieldOf file (at + 2) ≡ kind → GateNamed file at
-gate-named file at kind low high k =
-    ⊎-elim
-    (λ (e : 5 ≡ kind).
-    record { i = And (firstOf file at) (secondOf file at) (thirdOf file at); named = rw (k ∙ sym e); long = refl; used = refl })
-    (λ (e : 5 < kind).
-    let six : kind ≡ 6 = omega arith in
-    record { i = Or (firstOf file at) (secondOf file at) (thirdOf file at); named = rw (k ∙ six); long = refl; used = refl })
-    (eq-or-lt-of-le low)
+  pub gate-named : (kind : ℕ) → 5 ≤ kind → kind ≤ 6 → fieldOf file (at + 2) ≡ kind → GateNamed
+  gate-named kind low high k =
+      ⊎-elim
+      (λ (e : 5 ≡ kind).
+      record { i = And firstOf secondOf thirdOf; named = rw (k ∙ sym e); long = refl; used = refl })
+      (λ (e : 5 < kind).
+      let six : kind ≡ 6 = omega arith in
+      record { i = Or firstOf secondOf thirdOf; named = rw (k ∙ six); long = refl; used = refl })
+      (eq-or-lt-of-le low)
 
-pub reads-stands : (file : List ℕ) (at : ℕ) (i : Instruction) → decodeOf (drop at file) ≡ gives i → Stands file at i
-reads-stands file at i e =
-    let r = decode-reads (drop at file) i e in
-    let z : at + 0 ≡ at = omega arith in
-    record {
-      reads = e;
-      room = omega (arith, r .room, length-drop at file, kind-says i .0);
-      long = rw (field-drop at file 0, z) at (r .long);
-      named = rw (field-drop at file 2, field-drop at file 4, field-drop at file 6, field-drop at file 8) at (r .named);
-    }
+  pub reads-stands : (i : Instruction) → decodeOf (drop at file) ≡ gives i → Stands i
+  reads-stands i e =
+      let r = decode-reads (drop at file) i e in
+      let z : at + 0 ≡ at = omega arith in
+      record {
+        reads = e;
+        room = omega (arith, r .room, length-drop at file, kind-says i .0);
+        long = rw (field-drop at file 0, z) at (r .long);
+        named = rw (field-drop at file 2, field-drop at file 4, field-drop at file 6, field-drop at file 8) at (r .named);
+      }
 
-pub decodes : (file : List ℕ) (at : ℕ) (i : Instruction) → at + lengthOf i ≤ length file → fieldOf file at ≡ lengthOf i →
-    namedAt file at ≡ gives i → gives i ≡ decodeAt file at
-unfolding decodeAt
-decodes file at i room long e =
-    let z : at + 0 ≡ at = omega arith in
-    sym (reads-decode (drop at file) i (record {
-      room = omega (arith, length-drop at file);
-      long = rw (field-drop at file 0, z) long;
-      named = rw (field-drop at file 2, field-drop at file 4, field-drop at file 6, field-drop at file 8) e;
-    }))
+  pub decodes : (i : Instruction) → at + lengthOf i ≤ length file → fieldOf file at ≡ lengthOf i →
+      namedAt ≡ gives i → gives i ≡ decodeAt file at
+  unfolding decodeAt
+  decodes i room long e =
+      let z : at + 0 ≡ at = omega arith in
+      sym (reads-decode (drop at file) i (record {
+        room = omega (arith, length-drop at file);
+        long = rw (field-drop at file 0, z) long;
+        named = rw (field-drop at file 2, field-drop at file 4, field-drop at file 6, field-drop at file 8) e;
+      }))
+
+  -- the kind tells the instruction
+  module _ (nr ni nq : ℕ) (r : ReadyAt nr ni nq) where
+    pub ready-room : at + 6 ≤ length file
+    ready-room = omega (arith, r .stands .room, kind-says (r .i) .0)
+
+    -- the instruction that the kind's clause says is the one that stands there
+    by-kind : {i : Instruction} → namedAt ≡ gives i → Stands i × InRange nr ni nq i
+    by-kind {i} e =
+        let q : r .i ≡ i = gives-inj (sym (r .stands .named) ∙ e) in
+        (rw q at (r .stands), rw q at (r .range))
+
+    module _ (k : ℕ) (is-k : k ≡ fieldOf file (at + 2)) where
+      is-named : {i : Instruction} {n : ℕ} → k ≡ n → ofKind n firstOf secondOf thirdOf ≡ gives i →
+          Stands i × InRange nr ni nq i
+      is-named e q = by-kind (rw (sym is-k ∙ e) q)
+
+      kind-is : k ≡ kindOf (r .i)
+      kind-is =
+          let bytes = drop at file in
+          is-k ∙ rw (field-drop at file 2) at (named bytes (r .i) (decode-reads bytes (r .i) (r .stands .reads)) .kind)
+
+      pub is-ones : k ≡ 1 → Stands (Ones firstOf) × (firstOf < nr)
+      is-ones e = let s = is-named e refl in (s .0, s .1 .0 .0)
+
+      pub is-zero : k ≡ 2 → Stands (Zero firstOf) × (firstOf < nr)
+      is-zero e = let s = is-named e refl in (s .0, s .1 .0 .0)
+
+      pub is-input : k ≡ 3 → Stands (Input firstOf secondOf) × ((firstOf < nr) × (secondOf < ni))
+      is-input e = let s = is-named e refl in (s .0, (s .1 .0 .0, s .1 .2 .0))
+
+      pub is-not : k ≡ 4 → Stands (Not firstOf secondOf) × ((firstOf < nr) × (secondOf < nr))
+      is-not e = let s = is-named e refl in (s .0, (s .1 .0 .0, s .1 .1 .0))
+
+      pub is-and : k ≡ 5 → Stands (And firstOf secondOf thirdOf) × Gate nr
+      is-and e =
+          let s = is-named e refl in
+          (s .0, record { room = s .0 .room; into = s .1 .0 .0; left = s .1 .1 .0; right = s .1 .1 .1 .0 })
+
+      pub is-or : k ≡ 6 → Stands (Or firstOf secondOf thirdOf) × Gate nr
+      is-or e =
+          let s = is-named e refl in
+          (s .0, record { room = s .0 .room; into = s .1 .0 .0; left = s .1 .1 .0; right = s .1 .1 .1 .0 })
+
+      pub is-output : (k ≡ 1 → ⊥) → (k ≡ 2 → ⊥) → (k ≡ 3 → ⊥) → (k ≡ 4 → ⊥) → (k ≡ 5 → ⊥) → (k ≡ 6 → ⊥) →
+          Stands (Output firstOf secondOf) × ((firstOf < nq) × (secondOf < nr))
+      is-output n1 n2 n3 n4 n5 n6 =
+          let e : k ≡ 7 = omega (arith, kind-is, kind-says (r .i)) in
+          let s = is-named e refl in
+          (s .0, (s .1 .3 .0, s .1 .1 .0))
+
+      -- all but ONES and ZERO have a second operand
+      pub second-room : (k ≡ 1 → ⊥) → (k ≡ 2 → ⊥) → at + 8 ≤ length file
+      second-room n1 n2 = omega (arith, r .stands .room, kind-says (r .i) .3 (omega (arith, kind-is, kind-says (r .i))))
 
 -- ---- instructions one after another
 pub read-first : (n : ℕ) (bytes : List ℕ) (i : Instruction) → decodeOf bytes ≡ gives i →
@@ -154,60 +209,6 @@ formed-less zero n nr ni nq bytes l h = tt
 formed-less (suc m) zero nr ni nq bytes l h = absurd (omega arith)
 formed-less (suc m) (suc n) nr ni nq bytes l h =
     onGives-map (decodeOf bytes) _ _ (λ i g. (g .0, formed-less m n nr ni nq (drop (lengthOf i) bytes) (omega arith) (g .1))) h
-
--- ---- the kind tells the instruction
-module _ (file : List ℕ) (at nr ni nq : ℕ) (r : ReadyAt file at nr ni nq) where
-  pub ready-room : at + 6 ≤ length file
-  ready-room = omega (arith, r .stands .room, kind-says (r .i) .0)
-
-  -- the instruction that the kind's clause says is the one that stands there
-  by-kind : {i : Instruction} → namedAt file at ≡ gives i → Stands file at i × InRange nr ni nq i
-  by-kind {i} e =
-      let q : r .i ≡ i = gives-inj (sym (r .stands .named) ∙ e) in
-      (rw q at (r .stands), rw q at (r .range))
-
-  module _ (k : ℕ) (is-k : k ≡ fieldOf file (at + 2)) where
-    is-named : {i : Instruction} {n : ℕ} → k ≡ n → ofKind n (firstOf file at) (secondOf file at) (thirdOf file at) ≡ gives i →
-        Stands file at i × InRange nr ni nq i
-    is-named e q = by-kind (rw (sym is-k ∙ e) q)
-
-    kind-is : k ≡ kindOf (r .i)
-    kind-is =
-        let bytes = drop at file in
-        is-k ∙ rw (field-drop at file 2) at (named bytes (r .i) (decode-reads bytes (r .i) (r .stands .reads)) .kind)
-
-    pub is-ones : k ≡ 1 → Stands file at (Ones (firstOf file at)) × (firstOf file at < nr)
-    is-ones e = let s = is-named e refl in (s .0, s .1 .0 .0)
-
-    pub is-zero : k ≡ 2 → Stands file at (Zero (firstOf file at)) × (firstOf file at < nr)
-    is-zero e = let s = is-named e refl in (s .0, s .1 .0 .0)
-
-    pub is-input : k ≡ 3 → Stands file at (Input (firstOf file at) (secondOf file at)) × ((firstOf file at < nr) × (secondOf file at < ni))
-    is-input e = let s = is-named e refl in (s .0, (s .1 .0 .0, s .1 .2 .0))
-
-    pub is-not : k ≡ 4 → Stands file at (Not (firstOf file at) (secondOf file at)) × ((firstOf file at < nr) × (secondOf file at < nr))
-    is-not e = let s = is-named e refl in (s .0, (s .1 .0 .0, s .1 .1 .0))
-
-    pub is-and : k ≡ 5 → Stands file at (And (firstOf file at) (secondOf file at) (thirdOf file at)) × Gate file at nr
-    is-and e =
-        let s = is-named e refl in
-        (s .0, record { room = s .0 .room; into = s .1 .0 .0; left = s .1 .1 .0; right = s .1 .1 .1 .0 })
-
-    pub is-or : k ≡ 6 → Stands file at (Or (firstOf file at) (secondOf file at) (thirdOf file at)) × Gate file at nr
-    is-or e =
-        let s = is-named e refl in
-        (s .0, record { room = s .0 .room; into = s .1 .0 .0; left = s .1 .1 .0; right = s .1 .1 .1 .0 })
-
-    pub is-output : (k ≡ 1 → ⊥) → (k ≡ 2 → ⊥) → (k ≡ 3 → ⊥) → (k ≡ 4 → ⊥) → (k ≡ 5 → ⊥) → (k ≡ 6 → ⊥) →
-        Stands file at (Output (firstOf file at) (secondOf file at)) × ((firstOf file at < nq) × (secondOf file at < nr))
-    is-output n1 n2 n3 n4 n5 n6 =
-        let e : k ≡ 7 = omega (arith, kind-is, kind-says (r .i)) in
-        let s = is-named e refl in
-        (s .0, (s .1 .3 .0, s .1 .1 .0))
-
-    -- all but ONES and ZERO have a second operand
-    pub second-room : (k ≡ 1 → ⊥) → (k ≡ 2 → ⊥) → at + 8 ≤ length file
-    second-room n1 n2 = omega (arith, r .stands .room, kind-says (r .i) .3 (omega (arith, kind-is, kind-says (r .i))))
 
 -- ---- four gates of one kind, one after another
 pub record Four (file : List ℕ) (at kind : ℕ) : Type 0 where
