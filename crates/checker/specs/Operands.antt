@@ -131,24 +131,10 @@ instruction-means p written bytes i e =
       rw same at (not-false (every written (uses (c1 .0) .reads)) (c3 .0)),
     )
 
--- the ways through its checks
-module _ (file : List ℕ) (at : ℕ) (p : Program) (written : ℕ → Bool) where
-  pub admit-refused : (k : ℕ) → refused k ≡ decodeAt file at → refused k ≡ instructionOf p written (drop at file)
-  unfolding instructionOf decodeAt
-  admit-refused k e = rw (sym e)
-
-  module _ (i : Instruction) (e : gives i ≡ decodeAt file at) where
-    pub admit-operand : inRange p i ≡ false → refused 8 ≡ instructionOf p written (drop at file)
-    unfolding instructionOf decodeAt
-    admit-operand r = rw (sym e, r)
-
-    pub admit-unwritten : inRange p i ≡ true → every written (uses i .reads) ≡ false → refused 9 ≡ instructionOf p written (drop at file)
-    unfolding instructionOf decodeAt
-    admit-unwritten r w = rw (sym e, r, w)
-
-    pub admit-gives : inRange p i ≡ true → every written (uses i .reads) ≡ true → gives i ≡ instructionOf p written (drop at file)
-    unfolding instructionOf decodeAt
-    admit-gives r w = rw (sym e, r, w)
+pub admit-gives : (file : List ℕ) (at : ℕ) (p : Program) (written : ℕ → Bool) (i : Instruction) → gives i ≡ decodeAt file at →
+    inRange p i ≡ true → every written (uses i .reads) ≡ true → gives i ≡ instructionOf p written (drop at file)
+unfolding instructionOf decodeAt
+admit-gives file at p written i e r w = rw (sym e, r, w)
 
 pub admit-limits : (p : Program) (written : ℕ → Bool) (bytes : List ℕ) (i : Instruction) → gives i ≡ instructionOf p written bytes →
     within p ≡ true → InRange most-registers most-inputs most-outputs i
