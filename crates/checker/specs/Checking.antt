@@ -13,7 +13,6 @@ use Rattle.programs.specs.Limits.{most-registers, most-outputs, within, unwritt
 use Rattle.programs.specs.Instructions.{uses, lengthOf}
 use Rattle.programs.specs.Header.{header-length, headerOf}
 use Rattle.programs.specs.Reading.{within-means}
-use Rattle.programs.specs.Inverse.{header-reads}
 use Rattle.programs.specs.declared.description.Program.{Program}
 use Rattle.programs.specs.declared.description.Instruction.{Instruction}
 use Rattle.checker.specs.Checks.{Code, instructionOf, codeOf, nothing, checkOf}
@@ -108,11 +107,6 @@ module _ (file : List ℕ) where
   check-refused k e = rw (← e)
 
   module _ (p : Program) (e : gives p ≡ headerOf file) where
-    pub check-ready : (within p ≡ true) × (header-length ≤ length file)
-    check-ready =
-        let r = header-reads file p (sym e) in
-        (r .inside, r .room)
-
     pub check-body : (o : Outcome Program) → o ≡ wholeOf file p →
         o ≡ mapped (λ c. c .program) (checkOf file)
     unfolding checkOf restOf

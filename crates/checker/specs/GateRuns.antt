@@ -1,12 +1,11 @@
 -- What is left of a check, and runs of ANDs and ORs that leave its answer as it is. Assumes nothing.
 use Prim.Native.Nat.{ℕ, suc, _+_, _-_, _*_, _≤_, _<_}
 use mathlib.Core.Path.{_≡_, refl, sym, _∙_}
-use mathlib.Core.Bool.{Bool, true, false, _&&_}
+use mathlib.Core.Bool.{Bool, true}
 use mathlib.Core.List.{List, _∷_}
 use native.Mathlib.Omega.{arith}
-use lib.ListN.{length, getD, set, drop, length-set}
+use lib.ListN.{length, set, drop, length-set}
 use lib.Seq.{drop-drop}
-use Rattle.laws.specs.Tests.{both}
 use Rattle.laws.specs.Outcome.{Outcome, gives, _>>=_, mapped, bind-is, mapped-mapped}
 use Rattle.fields.specs.Fields.{fieldOf}
 use Rattle.programs.specs.Limits.{most-registers}
@@ -42,18 +41,6 @@ pub record SoundGate (file : List ℕ) (at registers : ℕ) (w : List Bool) : Ty
   pub right : thirdOf file at < registers
   pub left-written : flagged w (secondOf file at) ≡ true
   pub right-written : flagged w (thirdOf file at) ≡ true
-
-pub sound : (file : List ℕ) (at registers to a b : ℕ) (w : List Bool) → to ≡ firstOf file at → a ≡ secondOf file at → b ≡ thirdOf file at →
-    to < registers → a < registers → b < registers → (getD w a false && getD w b false) ≡ true → SoundGate file at registers w
-sound file at registers to a b w e q r l m n f =
-    let s = both (getD w a false) (getD w b false) f in
-    record {
-      into = omega arith;
-      left = omega arith;
-      right = omega arith;
-      left-written = rw (← q) (s .0);
-      right-written = rw (← r) (s .1);
-    }
 
 -- where a run of one kind, AND or OR, is passed
 pub record GateRun (file : List ℕ) (from kind registers : ℕ) (w : List Bool) : Type 0 where

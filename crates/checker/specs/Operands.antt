@@ -12,7 +12,7 @@ use lib.Seq.{getD-set-same, getD-set-other}
 use Rattle.laws.specs.Every.{every, every-below}
 use Rattle.laws.specs.Tests.{both}
 use Rattle.laws.specs.Lists.{Each, each-more}
-use Rattle.laws.specs.Outcome.{refused, gives, passed, bound, gives-inj}
+use Rattle.laws.specs.Outcome.{gives, passed, bound, gives-inj}
 use Rattle.programs.specs.Limits.{most-registers, most-inputs, most-outputs, within}
 use Rattle.programs.specs.Instructions.{uses, lengthOf, decodeOf, decodeAt}
 use Rattle.programs.specs.Reading.{within-means}
