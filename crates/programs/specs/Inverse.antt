@@ -16,7 +16,7 @@ use Rattle.fields.specs.Fields.{fieldOf, field-small}
 use Rattle.programs.specs.Limits.{within}
 use Rattle.programs.specs.Records.{recordBytes}
 use Rattle.programs.specs.Reading.{length-fields, length-instruction, encode-gives}
-use Rattle.programs.specs.Reading.{header-long, header-numbers, header-read, write-header-gives}
+use Rattle.programs.specs.Reading.{header-long, afterKind, header-numbers, write-header-gives}
 use Rattle.programs.specs.Instructions.{ofKind, sizedOf, kindOf, lengthOf, operandsOf, instructionBytes, encodeOf, decodeOf, decodeAt}
 use Rattle.programs.specs.Header.{header-length, header-kind, headerBytes, headerOf, writeHeaderOf, numbersOf}
 use Rattle.programs.specs.declared.description.Program.{Program}
@@ -161,18 +161,10 @@ unfolding headerBytes recordBytes numbersOf fieldOf
 numbers-written p rest = rw (field-back (p .registers), field-back (p .inputs), field-back (p .outputs), count-back (p .count))
 
 pub header-written : (p : Program) (rest : List ℕ) → within p ≡ true → headerOf (headerBytes p ++ rest) ≡ gives p
-unfolding headerBytes recordBytes fieldOf
-header-written p rest w =
-    let numbers = header-numbers (headerBytes p ++ rest) (omega arith) refl p (numbers-written p rest) in
-    sym (header-read (headerBytes p ++ rest) p numbers w header-length refl refl)
+unfolding headerBytes recordBytes fieldOf afterKind
+header-written p rest w = header-numbers (headerBytes p ++ rest) (omega arith) refl p (numbers-written p rest) ∙ rw w
 
 -- ---- bytes are written back as they are read
-low-back : (x y : ℕ) → x < 256 → (x + 256 * y) % 256 ≡ x
-low-back x y h = omega arith
-
-high-back : (x y : ℕ) → x < 256 → (x + 256 * y) / 256 ≡ y
-high-back x y h = omega arith
-
 two-ahead : (bytes : List ℕ) (k : ℕ) → k + 2 ≤ length bytes → drop k bytes ≡ getD bytes k 0 ∷ getD bytes (k + 1) 0 ∷ drop (k + 2) bytes
 two-ahead bytes k h =
     let next : k + 2 ≡ suc (k + 1) = omega arith in
@@ -189,7 +181,9 @@ module _ (bytes : List ℕ) (byte : (i : ℕ) → getD bytes i 0 < 256) where
       let at : k + 2 * suc n ≡ (k + 2) + 2 * n = omega arith in
       let x : ℕ = getD bytes k 0 in
       let y : ℕ = getD bytes (k + 1) 0 in
-      rw (low-back x y (byte k), high-back x y (byte k), at)
+      let low : (x + 256 * y) % 256 ≡ x = omega (arith, byte k) in
+      let high : (x + 256 * y) / 256 ≡ y = omega (arith, byte k) in
+      rw (low, high, at)
       (two-ahead bytes k (omega arith) ∙ ap (λ (l : List ℕ). x ∷ y ∷ l) (record-back n (k + 2) (omega arith)))
 
 pub instruction-back : (bytes : List ℕ) (i : Instruction) → ((k : ℕ) → getD bytes k 0 < 256) → decodeOf bytes ≡ gives i →
@@ -208,16 +202,10 @@ pub header-back : (file : List ℕ) (p : Program) → ((k : ℕ) → getD file k
 unfolding headerBytes numbersOf
 header-back file p byte e =
     let h = header-reads file p e in
-    rw (← h .numbers, count-low, count-high, ← h .kind, ← h .long) (record-back file byte 7 0 (h .room))
-  where
-    small : fieldOf file 10 < 65536
-    small = field-small file 10 (byte 10) (byte 11)
-
-    count-low : (fieldOf file 10 + 65536 * fieldOf file 12) % 65536 ≡ fieldOf file 10
-    count-low = omega (arith, small)
-
-    count-high : (fieldOf file 10 + 65536 * fieldOf file 12) / 65536 ≡ fieldOf file 12
-    count-high = omega (arith, small)
+    let small = field-small file 10 (byte 10) (byte 11) in
+    let low : (fieldOf file 10 + 65536 * fieldOf file 12) % 65536 ≡ fieldOf file 10 = omega (arith, small) in
+    let high : (fieldOf file 10 + 65536 * fieldOf file 12) / 65536 ≡ fieldOf file 12 = omega (arith, small) in
+    rw (← h .numbers, low, high, ← h .kind, ← h .long) (record-back file byte 7 0 (h .room))
 
 -- ---- what the contracts of encode, decode, write_header and read_header cite
 -- the front of a file

@@ -4,7 +4,7 @@ use mathlib.Core.Path.{_≡_, refl, sym, ap, _∙_}
 use mathlib.Core.Bool.{true, false, not}
 use mathlib.Core.List.{List, [], _∷_}
 use native.Mathlib.Omega.{arith}
-use borrow.Author.Tests.{lt-ltb, le-ltb, ltb-false, le-leb, leb-true, eq-eqb, ne-eqb, not-true}
+use borrow.Author.Tests.{lt-ltb, le-ltb, ltb-false, le-leb, leb-true, eq-eqb, not-true}
 use lib.Dec.{eqb, ltb}
 use lib.ListN.{length, take, drop, length-drop}
 use Rattle.laws.specs.Tests.{both, neither}
@@ -118,11 +118,6 @@ module _ (i : Instruction) (at : ℕ) (buf : List ℕ) where
   encode-room long now q h e = rw (encode-gives i at (length buf) h) (ap gives (q ∙ sym (length-instruction i)), e)
 
 -- ---- a header
-pub numbers-are : (file : List ℕ) (r i o lo hi : ℕ) → r ≡ fieldOf file 4 → i ≡ fieldOf file 6 → o ≡ fieldOf file 8 → lo ≡ fieldOf file 10 →
-    hi ≡ fieldOf file 12 → record { registers = r; inputs = i; outputs = o; count = lo + 65536 * hi } ≡ numbersOf file
-unfolding numbersOf
-numbers-are file r i o lo hi e1 e2 e3 e4 e5 = rw (e1, e2, e3, e4, e5)
-
 -- what is left to check of a file that is long enough and of the kind, where its numbers are p
 unfoldable pub afterKind : List ℕ → Program → Outcome Program
 afterKind file p = do
@@ -134,20 +129,6 @@ pub header-numbers : (file : List ℕ) → header-length ≤ length file → fie
     headerOf file ≡ afterKind file p
 unfolding headerOf afterKind
 header-numbers file h k p is-p = rw (le-ltb (length file) header-length h, eq-eqb (fieldOf file 2) header-kind k, is-p)
-
-module _ (file : List ℕ) (p : Program) (e : headerOf file ≡ afterKind file p) where
-  pub header-outside : within p ≡ false → refused 3 ≡ headerOf file
-  unfolding afterKind
-  header-outside w = sym (e ∙ rw w)
-
-  module _ (w : within p ≡ true) (len : ℕ) (is-len : len ≡ fieldOf file 0) where
-    pub header-length-wrong : (len ≡ header-length → ⊥) → refused 4 ≡ headerOf file
-    unfolding afterKind
-    header-length-wrong n = sym (e ∙ rw (w, ne-eqb (fieldOf file 0) header-length (λ q. n (is-len ∙ q))))
-
-    pub header-read : len ≡ header-length → gives p ≡ headerOf file
-    unfolding afterKind
-    header-read q = sym (e ∙ rw (w, eq-eqb (fieldOf file 0) header-length (sym is-len ∙ q)))
 
 -- ---- writing a header
 module _ (p : Program) (room : ℕ) where
