@@ -65,11 +65,6 @@ record Follows (n : ℕ) (p : Program) (W : ℕ → Type 0) (set : ℕ → Bool)
   -- they are the encoding of what is read
   back : ((k : ℕ) → getD bytes k 0 < 256) → bytes ≡ codeBytes is
 
-set-here : (i : Instruction) (is : List Instruction) (set : ℕ → Bool) (o : ℕ) → Sets o is ⊎ (also set (uses i .sets) o ≡ true) →
-    Sets o (i ∷ is) ⊎ (set o ≡ true)
-set-here i is set o (inl x) = inl (inr x)
-set-here i is set o (inr x) = ⊎-map (λ y. inl y) (λ y. y) (also-says set (uses i .sets) o x)
-
 code-follows : (n : ℕ) (p : Program) (W : ℕ → Type 0) (written set : ℕ → Bool) (bytes : List ℕ) (is : List Instruction) →
     ((r : ℕ) → written r ≡ true → W r) → codeOf n p written set bytes ≡ gives is → Follows n p W set bytes is
 unfolding codeOf codeBytes
@@ -100,7 +95,8 @@ code-follows (suc n) p W written set bytes is w e =
       counted = ap suc (f .counted);
       in-range = (range-means p i (m .1), f .in-range);
       ready = (every-each written W (u .reads) w (m .2), f .ready);
-      all-set = λ o l. set-here i (c2 .0) set o (f .all-set o l);
+      all-set = λ o l. ⊎-elim (λ (x : Sets o (c2 .0)). inl (inr x))
+          (λ (x : also set (u .sets) o ≡ true). ⊎-map (λ y. inl y) (λ y. y) (also-says set (u .sets) o x)) (f .all-set o l);
       back = λ byte. (instruction-back bytes i byte (m .0) ∙
           ap (λ (l : List ℕ). instructionBytes i ++ l) (f .back (λ k. rw (getD-drop (lengthOf i) bytes k 0) (byte (lengthOf i + k)))));
     })

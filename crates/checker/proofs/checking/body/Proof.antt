@@ -9,10 +9,9 @@ use Rattle.programs.specs.Limits.{most-registers, most-inputs, most-outputs}
 use Rattle.programs.specs.Reading.{within-means}
 use Rattle.checker.specs.Checks.{instructionOf}
 use Rattle.checker.specs.Standing.{InRange}
-use Rattle.checker.specs.Operands.{flagged}
-use Rattle.checker.specs.Checking.{Checking, checking-none, checking-refused, checking-left, checking-unset, checking-done}
-use Rattle.checker.specs.Operands.{admit-room, admit-limits}
-use Rattle.checker.specs.Checking.{turn-ready, turn-done}
+use Rattle.checker.specs.Operands.{flagged, admit-room, admit-limits}
+use Rattle.checker.specs.Checking.{Checking, checking-none, checking-refused, turn-ready, turn-done}
+use Rattle.checker.specs.Checking.{checking-left, checking-unset, checking-done}
 use Rattle.checker.proofs.checking.body.Statement.{statement}
 use Rattle.checker.proofs.checking.body.Tie as tie
 
