@@ -1,6 +1,6 @@
 -- What a program must be to be accepted, as a judgment on its instructions, with laws for lists of them: the checker's tests from the other
 -- side. Assumes nothing.
-use Prim.Native.Nat.{ℕ, zero, suc, _+_, _<_}
+use Prim.Native.Nat.{ℕ, zero, suc, _<_}
 use mathlib.Core.Path.{_≡_, refl, sym, ap, _∙_}
 use mathlib.Core.Bool.{Bool, true, false, not, _||_, or-true}
 use mathlib.Core.List.{List, [], _∷_, _++_}
@@ -10,18 +10,18 @@ use borrow.Author.Tests.{eq-eqb, eqb-true}
 use lib.Dec.{eqb}
 use lib.ListN.{length, drop}
 use lib.Seq.{drop-at}
-use Rattle.laws.specs.Every.{every, each-every, OneOf}
+use Rattle.laws.specs.Every.{each-every, OneOf}
 use Rattle.laws.specs.Sums.{any-all}
 use Rattle.laws.specs.Lists.{blocks, Each, each-more}
 use Rattle.laws.specs.Outcome.{gives}
 use Rattle.programs.specs.Limits.{within}
-use Rattle.programs.specs.Instructions.{uses, lengthOf, instructionBytes, decodeOf}
+use Rattle.programs.specs.Instructions.{uses, lengthOf, instructionBytes}
 use Rattle.programs.specs.Header.{header-length, headerBytes, codeBytes, programFile}
 use Rattle.programs.specs.Reading.{length-instruction, header-long}
 use Rattle.programs.specs.Inverse.{decode-written, header-written}
 use Rattle.programs.specs.declared.description.Program.{Program}
 use Rattle.programs.specs.declared.description.Instruction.{Instruction}
-use Rattle.checker.specs.Checks.{also, inRange, instructionOf, codeOf, nothing, checkOf}
+use Rattle.checker.specs.Checks.{also, instructionOf, codeOf, nothing, checkOf}
 use Rattle.checker.specs.Standing.{InRange}
 use Rattle.checker.specs.Operands.{range-holds}
 
@@ -112,30 +112,22 @@ also-says t (x ∷ xs) r e = first (eqb x r) refl (λ q. also-says t xs r q) e
     first true q later e = inl (inl (sym (eqb-true x r q)))
     first false q later e = ⊎-map (λ y. inr y) (λ y. y) (later e)
 
-code-step : (n : ℕ) (p : Program) (written set : ℕ → Bool) (bytes : List ℕ) (i : Instruction) (is : List Instruction) →
-    decodeOf bytes ≡ gives i → inRange p i ≡ true → every written (uses i .reads) ≡ true →
-    codeOf n p (also written (uses i .writes)) (also set (uses i .sets)) (drop (lengthOf i) bytes) ≡ gives is →
-    codeOf (suc n) p written set bytes ≡ gives (i ∷ is)
-unfolding codeOf instructionOf
-code-step n p written set bytes i is d r w c = rw (d, r, w, c)
-
-code-none : (p : Program) (written set : ℕ → Bool) → ((o : ℕ) → o < p .outputs → set o ≡ true) → codeOf 0 p written set [] ≡ gives []
-unfolding codeOf
-code-none p written set s = rw (any-all (p .outputs) (λ o. not (set o)) (λ o l. ap not (s o l)))
-
 -- the instructions, where those before them wrote and set what passes the tests
 code-accepted : (is : List Instruction) (p : Program) (W : ℕ → Type 0) (written set : ℕ → Bool) → ((r : ℕ) → W r → written r ≡ true) →
     ((o : ℕ) → o < p .outputs → Sets o is ⊎ (set o ≡ true)) → Each (Fits p) is → Ready W is none →
     codeOf (length is) p written set (codeBytes is) ≡ gives is
-unfolding codeBytes
+unfolding codeBytes codeOf instructionOf
 code-accepted [] p W written set w s f e =
-    code-none p written set (λ o l. ⊎-elim (λ (x : ⊥). absurd x) (λ (x : set o ≡ true). x) (s o l))
+    rw (any-all (p .outputs) (λ o. not (set o)) (λ o l. ap not (⊎-elim (λ (x : ⊥). absurd x) (λ (x : set o ≡ true). x) (s o l))))
 code-accepted (i ∷ is) p W written set w s f e =
-    code-step (length is) p written set (instructionBytes i ++ codeBytes is) i is (decode-written i (codeBytes is)) (range-holds p i (f .0))
-    (each-every written W (uses i .reads) w (e .0))
-    (rw (drop-at (instructionBytes i) (codeBytes is) (lengthOf i) (length-instruction i))
-    (code-accepted is p (λ r. OneOf (uses i .writes) r ⊎ W r) (also written (uses i .writes)) (also set (uses i .sets))
-    (λ r x. also-holds written (uses i .writes) r (⊎-map (λ y. y) (w r) x)) (λ o l. later o (s o l)) (f .1) (e .1)))
+    rw (
+      decode-written i (codeBytes is),
+      range-holds p i (f .0),
+      each-every written W (uses i .reads) w (e .0),
+      drop-at (instructionBytes i) (codeBytes is) (lengthOf i) (length-instruction i),
+      code-accepted is p (λ r. OneOf (uses i .writes) r ⊎ W r) (also written (uses i .writes)) (also set (uses i .sets))
+          (λ r x. also-holds written (uses i .writes) r (⊎-map (λ y. y) (w r) x)) (λ o l. later o (s o l)) (f .1) (e .1),
+    )
   where
     later : (o : ℕ) → (OneOf (uses i .sets) o ⊎ Sets o is) ⊎ (set o ≡ true) → Sets o is ⊎ (also set (uses i .sets) o ≡ true)
     later o (inl (inl x)) = inr (also-holds set (uses i .sets) o (inl x))

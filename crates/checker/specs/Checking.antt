@@ -1,49 +1,36 @@
 -- The turns of a check that marks what it has seen: what is left from here is answered as the whole is. Assumes nothing.
-use Prim.Native.Nat.{ℕ, zero, suc, _+_, _-_, _≤_, _<_}
+use Prim.Native.Nat.{ℕ, suc, _+_, _-_, _≤_, _<_}
 use mathlib.Core.Path.{_≡_, refl, sym, _∙_, fun-ext}
 use mathlib.Core.Bool.{Bool, true, false, not}
 use mathlib.Core.List.{List}
 use native.Mathlib.Omega.{arith}
-use lib.ListN.{length, getD, drop, replicate, length-replicate}
-use Rattle.laws.specs.Sums.{any, any-more, any-found}
-use Rattle.laws.specs.Outcome.{Outcome, refused, gives, refuse, _>>_, _>>=_, mapped, bound, gives-inj}
+use borrow.Author.Tests.{lt-ltb, le-ltb}
+use lib.ListN.{length, drop, replicate, length-drop, length-replicate}
+use Rattle.laws.specs.Sums.{any}
+use Rattle.laws.specs.Lists.{all-replicate}
+use Rattle.laws.specs.Outcome.{Outcome, refused, gives, _>>=_, mapped, bound, gives-inj}
 use Rattle.programs.specs.Limits.{most-registers, most-outputs, within, unwritten, unset}
 use Rattle.programs.specs.Instructions.{uses, lengthOf}
 use Rattle.programs.specs.Header.{header-length, headerOf}
 use Rattle.programs.specs.Reading.{within-means}
-use Rattle.programs.specs.Inverse.{header-reads}
 use Rattle.programs.specs.declared.description.Program.{Program}
 use Rattle.programs.specs.declared.description.Instruction.{Instruction}
 use Rattle.checker.specs.Checks.{Code, instructionOf, codeOf, nothing, checkOf}
 use Rattle.checker.specs.Operands.{flagged, Flags, admit-room}
-use Rattle.checker.specs.GateRuns.{restOf, Passes, mapped-after, rest-more, rest-refused, rest-left, rest-unset, rest-done}
-
--- whether one of the first flags is missing, tried flag by flag
-module _ (s : List Bool) where
-  pub missing-found : (n o : ℕ) → o < n → not (getD s o false) ≡ true → true ≡ any n (λ k. not (flagged s k))
-  unfolding flagged
-  missing-found n o l e = sym (any-found n o (λ k. not (flagged s k)) l e)
-
-  pub missing-more : (o : ℕ) → not (getD s o false) ≡ false → any o (λ k. not (flagged s k)) ≡ false →
-      any (o + 1) (λ k. not (flagged s k)) ≡ false
-  unfolding flagged
-  missing-more o e q = any-more o (λ k. not (flagged s k)) e q
+use Rattle.checker.specs.GateRuns.{restOf, Passes, mapped-after, rest-more}
 
 -- ---- the whole body
+abbrev pub wholeOf : List ℕ → Program → Outcome Program
+wholeOf file p = restOf file p nothing nothing (p .count) header-length
+
 pub record Checking (file : List ℕ) (p : Program) (n at : ℕ) (w s : List Bool) : Type 0 where
-  pub same : restOf file p (flagged w) (flagged s) n at ≡ restOf file p nothing nothing (p .count) header-length
+  pub same : restOf file p (flagged w) (flagged s) n at ≡ wholeOf file p
   pub inside : at ≤ length file
   pub long : length w ≡ most-registers
   pub wide : length s ≡ most-outputs
 
 fresh-flags : (n : ℕ) → flagged (replicate n false) ≡ nothing
-unfolding flagged
-fresh-flags n = fun-ext (λ r. by n r)
-  where
-    by : (n r : ℕ) → getD (replicate n false) r false ≡ false
-    by zero r = refl
-    by (suc n) zero = refl
-    by (suc n) (suc r) = by n r
+fresh-flags n = fun-ext (λ r. all-replicate (λ x. x ≡ false) false n refl r)
 
 module _ (file : List ℕ) (p : Program) where
   pub checking-none : (n : ℕ) (w s : List Bool) → n ≡ p .count → header-length ≤ length file → w ≡ unwritten → s ≡ unset →
@@ -58,23 +45,28 @@ module _ (file : List ℕ) (p : Program) where
       }
 
   module _ (n at : ℕ) (w s : List Bool) (g : Checking file p n at w s) where
-    module _ (i : Instruction) (reads : gives i ≡ instructionOf p (flagged w) (drop at file)) where
-      checking-suc : (m : ℕ) → n ≡ suc m → (w′ s′ : List Bool) → Flags (uses i .writes) w w′ → Flags (uses i .sets) s s′ →
-          Checking file p m (at + lengthOf i) w′ s′
-      checking-suc m q w′ s′ a b =
-          record {
-            same = rw (a .now-flagged, b .now-flagged)
-                (sym (rest-more file p (flagged w) (flagged s) m at i (sym reads)) ∙ rw q at (g .same));
-            inside = admit-room file at p (flagged w) i reads;
-            long = a .long ∙ g .long;
-            wide = b .long ∙ g .wide;
-          }
+    module _ (l : 0 < n) where
+      one-left : restOf file p (flagged w) (flagged s) (suc (n - 1)) at ≡ wholeOf file p
+      one-left =
+          let q : n ≡ suc (n - 1) = omega arith in
+          rw q at (g .same)
+
+      pub checking-refused : (k : ℕ) → refused k ≡ instructionOf p (flagged w) (drop at file) → refused k ≡ wholeOf file p
+      unfolding restOf codeOf
+      checking-refused k e = rw (← e) at one-left
 
       -- the turn of a loop: this instruction, its marks, and the gates behind it
-      module _ (l : 0 < n) (len : ℕ) (is-len : len ≡ lengthOf i) (w′ s′ : List Bool) (a : Flags (uses i .writes) w w′)
-          (b : Flags (uses i .sets) s s′) where
+      module _ (i : Instruction) (reads : gives i ≡ instructionOf p (flagged w) (drop at file)) (len : ℕ) (is-len : len ≡ lengthOf i)
+          (w′ s′ : List Bool) (a : Flags (uses i .writes) w w′) (b : Flags (uses i .sets) s s′) where
         behind : Checking file p (n - 1) (at + len) w′ s′
-        behind = rw is-len (checking-suc (n - 1) (omega arith) w′ s′ a b)
+        behind =
+            rw is-len (record {
+              same = rw (a .now-flagged, b .now-flagged)
+                  (sym (rest-more file p (flagged w) (flagged s) (n - 1) at i (sym reads)) ∙ one-left);
+              inside = admit-room file at p (flagged w) i reads;
+              long = a .long ∙ g .long;
+              wide = b .long ∙ g .wide;
+            })
 
         pub turn-ready : within p ≡ true → (p .registers ≤ most-registers) × (length w′ ≡ most-registers) × (at + len ≤ length file)
         turn-ready v = (within-means p v .few-registers, behind .long, behind .inside)
@@ -89,28 +81,24 @@ module _ (file : List ℕ) (p : Program) where
               wide = behind .wide;
             }
 
-    pub checking-refused : 0 < n → (k : ℕ) → refused k ≡ instructionOf p (flagged w) (drop at file) →
-        refused k ≡ restOf file p nothing nothing (p .count) header-length
-    checking-refused l k e =
-        let q : n ≡ suc (n - 1) = omega arith in
-        sym (rest-refused file p (flagged w) (flagged s) (n - 1) at k (sym e)) ∙ rw q at (g .same)
-
+    -- the end: bytes left over, or an output not set, or none of both
     module _ (z : n ≤ 0) where
-      at-end : restOf file p (flagged w) (flagged s) 0 at ≡ restOf file p nothing nothing (p .count) header-length
-      at-end =
+      none-left : restOf file p (flagged w) (flagged s) 0 at ≡ wholeOf file p
+      none-left =
           let q : n ≡ 0 = omega arith in
           rw q at (g .same)
 
-      pub checking-left : at < length file → refused 4 ≡ restOf file p nothing nothing (p .count) header-length
-      checking-left h = sym (rest-left file p (flagged w) (flagged s) at h) ∙ at-end
+      pub checking-left : at < length file → refused 4 ≡ wholeOf file p
+      unfolding restOf codeOf
+      checking-left h = rw (length-drop at file, lt-ltb 0 (length file - at) (omega arith)) at none-left
 
-      pub checking-unset : length file ≤ at → any (p .outputs) (λ o. not (flagged s o)) ≡ true →
-          refused 10 ≡ restOf file p nothing nothing (p .count) header-length
-      checking-unset h e = sym (rest-unset file p (flagged w) (flagged s) at h e) ∙ at-end
+      pub checking-unset : length file ≤ at → any (p .outputs) (λ o. not (flagged s o)) ≡ true → refused 10 ≡ wholeOf file p
+      unfolding restOf codeOf
+      checking-unset h e = rw (length-drop at file, le-ltb 0 (length file - at) (omega arith), e) at none-left
 
-      pub checking-done : length file ≤ at → any (p .outputs) (λ o. not (flagged s o)) ≡ false →
-          gives p ≡ restOf file p nothing nothing (p .count) header-length
-      checking-done h e = sym (rest-done file p (flagged w) (flagged s) at h e) ∙ at-end
+      pub checking-done : length file ≤ at → any (p .outputs) (λ o. not (flagged s o)) ≡ false → gives p ≡ wholeOf file p
+      unfolding restOf codeOf
+      checking-done h e = rw (length-drop at file, le-ltb 0 (length file - at) (omega arith), e) at none-left
 
 -- ---- header, then body
 module _ (file : List ℕ) where
@@ -119,12 +107,7 @@ module _ (file : List ℕ) where
   check-refused k e = rw (← e)
 
   module _ (p : Program) (e : gives p ≡ headerOf file) where
-    pub check-ready : (within p ≡ true) × (header-length ≤ length file)
-    check-ready =
-        let r = header-reads file p (sym e) in
-        (r .inside, r .room)
-
-    pub check-body : (o : Outcome Program) → o ≡ restOf file p nothing nothing (p .count) header-length →
+    pub check-body : (o : Outcome Program) → o ≡ wholeOf file p →
         o ≡ mapped (λ c. c .program) (checkOf file)
     unfolding checkOf restOf
     check-body o q =

@@ -9,18 +9,18 @@ use borrow.Author.Tests.{ltb-false, not-false}
 use lib.Dec.{ltb}
 use lib.ListN.{length, getD, drop}
 use lib.Seq.{getD-drop}
-use Rattle.laws.specs.Every.{every, OneOf, every-each, each-one, one-each}
+use Rattle.laws.specs.Every.{OneOf, every-each, each-one, one-each}
 use Rattle.laws.specs.Tests.{never}
 use Rattle.laws.specs.Sums.{any, any-false}
 use Rattle.laws.specs.Lists.{Each}
 use Rattle.laws.specs.Outcome.{gives, passed, bound, gives-inj}
-use Rattle.programs.specs.Instructions.{uses, lengthOf, instructionBytes, decodeOf}
+use Rattle.programs.specs.Instructions.{uses, lengthOf, instructionBytes}
 use Rattle.programs.specs.Header.{header-length, headerBytes, codeBytes, programFile}
 use Rattle.programs.specs.Reading.{Within, within-means, limits-hold}
 use Rattle.programs.specs.Inverse.{header-reads, instruction-back, header-back}
 use Rattle.programs.specs.declared.description.Program.{Program}
 use Rattle.programs.specs.declared.description.Instruction.{Instruction}
-use Rattle.checker.specs.Checks.{Code, also, inRange, instructionOf, codeOf, nothing, checkOf}
+use Rattle.checker.specs.Checks.{Code, also, instructionOf, codeOf, nothing, checkOf}
 use Rattle.checker.specs.Operands.{range-means, instruction-means}
 use Rattle.checker.specs.Checking.{check-says}
 use Rattle.checker.specs.Accepting.{Fits, Ready, Sets, none, Sound, also-says, accepted}
@@ -56,109 +56,77 @@ pub record WellFormed (p : Program) (is : List Instruction) : Type 0 where
   pub all-set : (o : ℕ) → o < p .outputs → SetBy is o
 
 -- ---- what the checks before a result say
--- one instruction and those behind it
-pub record Coded (n : ℕ) (p : Program) (written set : ℕ → Bool) (bytes : List ℕ) (is : List Instruction) : Type 0 where
-  pub first : Instruction
-  pub rest : List Instruction
-  pub split : is ≡ first ∷ rest
-  pub read : decodeOf bytes ≡ gives first
-  pub in-range : inRange p first ≡ true
-  pub known : every written (uses first .reads) ≡ true
-  pub behind : codeOf n p (also written (uses first .writes)) (also set (uses first .sets)) (drop (lengthOf first) bytes) ≡ gives rest
+-- of instructions that are read from some bytes, where those before them wrote W and set what passes the test
+record Follows (n : ℕ) (p : Program) (W : ℕ → Type 0) (set : ℕ → Bool) (bytes : List ℕ) (is : List Instruction) : Type 0 where
+  counted : n ≡ length is
+  in-range : Each (Fits p) is
+  ready : Ready W is none
+  all-set : (o : ℕ) → o < p .outputs → Sets o is ⊎ (set o ≡ true)
+  -- they are the encoding of what is read
+  back : ((k : ℕ) → getD bytes k 0 < 256) → bytes ≡ codeBytes is
 
-pub code-says : (n : ℕ) (p : Program) (written set : ℕ → Bool) (bytes : List ℕ) (is : List Instruction) →
-    codeOf (suc n) p written set bytes ≡ gives is → Coded n p written set bytes is
-unfolding codeOf
-code-says n p written set bytes is e =
-    let c1 = bound (instructionOf p written bytes) _ is e in
-    let i : Instruction = c1 .0 in
-    let c2 = bound (codeOf n p (also written (uses i .writes)) (also set (uses i .sets)) (drop (lengthOf i) bytes)) _ is (c1 .2) in
-    let m = instruction-means p written bytes i (c1 .1) in
-    record { first = i; rest = c2 .0; split = sym (gives-inj (c2 .2)); read = m .0; in-range = m .1; known = m .2; behind = c2 .1 }
-
-pub code-ends : (p : Program) (written set : ℕ → Bool) (bytes : List ℕ) (is : List Instruction) → codeOf 0 p written set bytes ≡ gives is →
-    (bytes ≡ []) × (is ≡ []) × ((o : ℕ) → o < p .outputs → set o ≡ true)
-unfolding codeOf
-code-ends p written set bytes is e =
+code-follows : (n : ℕ) (p : Program) (W : ℕ → Type 0) (written set : ℕ → Bool) (bytes : List ℕ) (is : List Instruction) →
+    ((r : ℕ) → written r ≡ true → W r) → codeOf n p written set bytes ≡ gives is → Follows n p W set bytes is
+unfolding codeOf codeBytes
+code-follows zero p W written set bytes is w e =
     let c1 = passed 4 (ltb 0 (length bytes)) _ is e in
-    let c2 = passed 10 (any (p .outputs) (λ o. not (set o))) (gives []) is (c1 .1) in (
-      empty bytes (ltb-false 0 (length bytes) (c1 .0)),
-      sym (gives-inj (c2 .1)),
-      (λ o l. not-false (set o) (any-false (p .outputs) o (λ o. not (set o)) (c2 .0) l)),
-    )
+    let c2 = passed 10 (any (p .outputs) (λ o. not (set o))) (gives []) is (c1 .1) in
+    rw (← gives-inj (c2 .1)) (record {
+      counted = refl;
+      in-range = tt;
+      ready = λ r x. absurd x;
+      all-set = λ o l. inr (not-false (set o) (any-false (p .outputs) o (λ o. not (set o)) (c2 .0) l));
+      back = λ byte. empty bytes (ltb-false 0 (length bytes) (c1 .0));
+    })
   where
     empty : (l : List ℕ) → length l ≤ 0 → l ≡ []
     empty [] h = refl
     empty (x ∷ l) h = absurd (omega arith)
+code-follows (suc n) p W written set bytes is w e =
+    let c1 = bound (instructionOf p written bytes) _ is e in
+    let i : Instruction = c1 .0 in
+    let u = uses i in
+    let c2 = bound (codeOf n p (also written (u .writes)) (also set (u .sets)) (drop (lengthOf i) bytes)) _ is (c1 .2) in
+    let m = instruction-means p written bytes i (c1 .1) in
+    let f =
+    code-follows n p (λ r. OneOf (u .writes) r ⊎ W r) (also written (u .writes)) (also set (u .sets)) (drop (lengthOf i) bytes) (c2 .0)
+    (λ r t. ⊎-map (λ y. y) (w r) (also-says written (u .writes) r t)) (c2 .1) in
+    rw (← gives-inj (c2 .2)) (record {
+      counted = ap suc (f .counted);
+      in-range = (range-means p i (m .1), f .in-range);
+      ready = (every-each written W (u .reads) w (m .2), f .ready);
+      all-set = λ o l. ⊎-elim (λ (x : Sets o (c2 .0)). inl (inr x))
+          (λ (x : also set (u .sets) o ≡ true). ⊎-map (λ y. inl y) (λ y. y) (also-says set (u .sets) o x)) (f .all-set o l);
+      back = λ byte. (instruction-back bytes i byte (m .0) ∙
+          ap (λ (l : List ℕ). instructionBytes i ++ l) (f .back (λ k. rw (getD-drop (lengthOf i) bytes k 0) (byte (lengthOf i + k)))));
+    })
 
--- ---- an accepted file is the encoding of what is read from it
-code-back : (n : ℕ) (p : Program) (written set : ℕ → Bool) (bytes : List ℕ) (is : List Instruction) → ((k : ℕ) → getD bytes k 0 < 256) →
-    codeOf n p written set bytes ≡ gives is → bytes ≡ codeBytes is
-unfolding codeBytes
-code-back zero p written set bytes is byte e =
-    let c = code-ends p written set bytes is e in
-    rw (c .1) (c .0)
-code-back (suc n) p written set bytes is byte e =
-    let c = code-says n p written set bytes is e in
-    let later : drop (lengthOf (c .first)) bytes ≡ codeBytes (c .rest) =
-    code-back n p (also written (uses (c .first) .writes)) (also set (uses (c .first) .sets)) (drop (lengthOf (c .first)) bytes) (c .rest)
-    (λ k. rw (getD-drop (lengthOf (c .first)) bytes k 0) (byte (lengthOf (c .first) + k))) (c .behind) in
-    rw (c .split) (instruction-back bytes (c .first) byte (c .read) ∙ ap (λ (l : List ℕ). instructionBytes (c .first) ++ l) later)
+file-follows : (file : List ℕ) (c : Code) → checkOf file ≡ gives c →
+    Follows (c .program .count) (c .program) none nothing (drop header-length file) (c .instructions)
+file-follows file c e =
+    code-follows (c .program .count) (c .program) none nothing nothing (drop header-length file) (c .instructions) (λ r t. never t)
+    (check-says file c e .1)
 
 -- an accepted file is the header and the instructions that are read from it, written again
 pub accepted-is : (file : List ℕ) (c : Code) → ((k : ℕ) → getD file k 0 < 256) → checkOf file ≡ gives c →
     file ≡ programFile (c .program) (c .instructions)
 unfolding programFile
 accepted-is file c byte e =
-    let s = check-says file c e in
-    header-back file (c .program) byte (s .0) ∙
+    header-back file (c .program) byte (check-says file c e .0) ∙
     ap (λ (l : List ℕ). headerBytes (c .program) ++ l)
-    (code-back (c .program .count) (c .program) nothing nothing (drop header-length file) (c .instructions)
-    (λ k. rw (getD-drop header-length file k 0) (byte (header-length + k))) (s .1))
+    (file-follows file c e .back (λ k. rw (getD-drop header-length file k 0) (byte (header-length + k))))
 
 -- so no two accepted files are read alike
 pub accepted-one : (file other : List ℕ) (c : Code) → ((k : ℕ) → getD file k 0 < 256) → ((k : ℕ) → getD other k 0 < 256) →
     checkOf file ≡ gives c → checkOf other ≡ gives c → file ≡ other
 accepted-one file other c byte byte′ e q = accepted-is file c byte e ∙ sym (accepted-is other c byte′ q)
 
--- ---- an accepted program is sound
--- what is asked of instructions, where those before them wrote W and set what passes the test
-record Follows (n : ℕ) (p : Program) (W : ℕ → Type 0) (set : ℕ → Bool) (is : List Instruction) : Type 0 where
-  counted : n ≡ length is
-  in-range : Each (Fits p) is
-  ready : Ready W is none
-  all-set : (o : ℕ) → o < p .outputs → Sets o is ⊎ (set o ≡ true)
-
-set-here : (i : Instruction) (is : List Instruction) (set : ℕ → Bool) (o : ℕ) → Sets o is ⊎ (also set (uses i .sets) o ≡ true) →
-    Sets o (i ∷ is) ⊎ (set o ≡ true)
-set-here i is set o (inl x) = inl (inr x)
-set-here i is set o (inr x) = ⊎-map (λ y. inl y) (λ y. y) (also-says set (uses i .sets) o x)
-
-code-follows : (n : ℕ) (p : Program) (W : ℕ → Type 0) (written set : ℕ → Bool) (bytes : List ℕ) (is : List Instruction) →
-    ((r : ℕ) → written r ≡ true → W r) → codeOf n p written set bytes ≡ gives is → Follows n p W set is
-code-follows zero p W written set bytes is w e =
-    let c = code-ends p written set bytes is e in
-    rw (c .1) (record { counted = refl; in-range = tt; ready = λ r x. absurd x; all-set = λ o l. inr (c .2 o l) })
-code-follows (suc n) p W written set bytes is w e =
-    let c = code-says n p written set bytes is e in
-    let u = uses (c .first) in
-    let f =
-    code-follows n p (λ r. OneOf (u .writes) r ⊎ W r) (also written (u .writes)) (also set (u .sets)) (drop (lengthOf (c .first)) bytes)
-    (c .rest) (λ r t. ⊎-map (λ y. y) (w r) (also-says written (u .writes) r t)) (c .behind) in
-    rw (c .split) (record {
-      counted = ap suc (f .counted);
-      in-range = (range-means p (c .first) (c .in-range), f .in-range);
-      ready = (every-each written W (u .reads) w (c .known), f .ready);
-      all-set = λ o l. set-here (c .first) (c .rest) set o (f .all-set o l);
-    })
-
+-- an accepted program is sound
 pub accepted-sound : (file : List ℕ) (c : Code) → checkOf file ≡ gives c → Sound (c .program) (c .instructions)
 accepted-sound file c e =
-    let s = check-says file c e in
-    let f = code-follows (c .program .count) (c .program) none nothing nothing (drop header-length file) (c .instructions)
-    (λ r t. never t) (s .1) in
+    let f = file-follows file c e in
     record {
-      limits = header-reads file (c .program) (s .0) .inside;
+      limits = header-reads file (c .program) (check-says file c e .0) .inside;
       counted = f .counted;
       in-range = f .in-range;
       written = f .ready;

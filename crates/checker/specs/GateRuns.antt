@@ -1,26 +1,20 @@
 -- What is left of a check, and runs of ANDs and ORs that leave its answer as it is. Assumes nothing.
 use Prim.Native.Nat.{ℕ, suc, _+_, _-_, _*_, _≤_, _<_}
 use mathlib.Core.Path.{_≡_, refl, sym, _∙_}
-use mathlib.Core.Bool.{Bool, true, false, not, _&&_}
-use mathlib.Core.List.{List, [], _∷_}
+use mathlib.Core.Bool.{Bool, true}
+use mathlib.Core.List.{List, _∷_}
 use native.Mathlib.Omega.{arith}
-use borrow.Author.Tests.{lt-ltb, le-ltb, eq-eqb}
-use lib.ListN.{length, getD, set, drop, length-drop, length-set}
+use lib.ListN.{length, set, drop, length-set}
 use lib.Seq.{drop-drop}
-use Rattle.laws.specs.Tests.{both}
-use Rattle.laws.specs.Sums.{any}
-use Rattle.laws.specs.Every.{every}
-use Rattle.laws.specs.Outcome.{Outcome, refused, gives, refuse, _>>_, _>>=_, mapped, bind-is, mapped-mapped}
+use Rattle.laws.specs.Outcome.{Outcome, gives, _>>=_, mapped, bind-is, mapped-mapped}
 use Rattle.fields.specs.Fields.{fieldOf}
 use Rattle.programs.specs.Limits.{most-registers}
-use Rattle.programs.specs.Instructions.{uses, lengthOf, sizedOf, decodeAt}
-use Rattle.programs.specs.Reading.{decode-as}
-use Rattle.programs.specs.Inverse.{field-drop, length-some}
+use Rattle.programs.specs.Instructions.{uses, lengthOf}
 use Rattle.programs.specs.declared.description.Program.{Program}
 use Rattle.programs.specs.declared.description.Instruction.{Instruction}
-use Rattle.checker.specs.Checks.{also, inRange, instructionOf, codeOf}
-use Rattle.checker.specs.Standing.{firstOf, secondOf, thirdOf, namedAt, GateNamed, gate-named}
-use Rattle.checker.specs.Operands.{flagged, range-holds, Flags, flag-set, also-none, admit-gives}
+use Rattle.checker.specs.Checks.{also, instructionOf, codeOf}
+use Rattle.checker.specs.Standing.{firstOf, secondOf, thirdOf, GateNamed, gate-named, decodes}
+use Rattle.checker.specs.Operands.{flagged, range-holds, flag-set, also-none, admit-gives}
 
 -- what is left of a check at a byte of a file: its refusal, or the header
 unfoldable pub restOf : List ℕ → Program → (ℕ → Bool) → (ℕ → Bool) → ℕ → ℕ → Outcome Program
@@ -32,28 +26,12 @@ pub mapped-after : {A B C : Type 0} (c : C) (g : B → C) (f : A → B) → ((a 
     mapped g (o >>= λ a. gives (f a)) ≡ mapped (λ a. c) o
 mapped-after c g f e o = rw (bind-is o f) (mapped-mapped f g (λ a. c) o e)
 
-module _ (file : List ℕ) (p : Program) (written set : ℕ → Bool) (n at : ℕ) where
-  pub rest-more : (i : Instruction) → instructionOf p written (drop at file) ≡ gives i → restOf file p written set (suc n) at ≡
-      restOf file p (also written (uses i .writes)) (also set (uses i .sets)) n (at + lengthOf i)
-  unfolding restOf codeOf
-  rest-more i e = rw (e, mapped-after p (λ is. p) (λ (is : List Instruction). i ∷ is) (λ is. refl), drop-drop (lengthOf i) at file)
-
-  pub rest-refused : (k : ℕ) → instructionOf p written (drop at file) ≡ refused k → restOf file p written set (suc n) at ≡ refused k
-  unfolding restOf codeOf
-  rest-refused k e = rw e
-
-module _ (file : List ℕ) (p : Program) (written set : ℕ → Bool) (at : ℕ) where
-  pub rest-left : at < length file → restOf file p written set 0 at ≡ refused 4
-  unfolding restOf codeOf
-  rest-left h = rw (length-drop at file, lt-ltb 0 (length file - at) (omega arith))
-
-  pub rest-unset : length file ≤ at → any (p .outputs) (λ o. not (set o)) ≡ true → restOf file p written set 0 at ≡ refused 10
-  unfolding restOf codeOf
-  rest-unset h e = rw (length-drop at file, le-ltb 0 (length file - at) (omega arith), e)
-
-  pub rest-done : length file ≤ at → any (p .outputs) (λ o. not (set o)) ≡ false → restOf file p written set 0 at ≡ gives p
-  unfolding restOf codeOf
-  rest-done h e = rw (length-drop at file, le-ltb 0 (length file - at) (omega arith), e)
+pub rest-more : (file : List ℕ) (p : Program) (written set : ℕ → Bool) (n at : ℕ) (i : Instruction) →
+    instructionOf p written (drop at file) ≡ gives i → restOf file p written set (suc n) at ≡
+    restOf file p (also written (uses i .writes)) (also set (uses i .sets)) n (at + lengthOf i)
+unfolding restOf codeOf
+rest-more file p written set n at i e =
+    rw (e, mapped-after p (λ is. p) (λ (is : List Instruction). i ∷ is) (λ is. refl), drop-drop (lengthOf i) at file)
 
 -- ---- runs of gates
 -- the operands of an AND or an OR that no refusal is due for
@@ -63,19 +41,6 @@ pub record SoundGate (file : List ℕ) (at registers : ℕ) (w : List Bool) : Ty
   pub right : thirdOf file at < registers
   pub left-written : flagged w (secondOf file at) ≡ true
   pub right-written : flagged w (thirdOf file at) ≡ true
-
-pub sound : (file : List ℕ) (at registers to a b : ℕ) (w : List Bool) → to ≡ firstOf file at → a ≡ secondOf file at → b ≡ thirdOf file at →
-    to < registers → a < registers → b < registers → (getD w a false && getD w b false) ≡ true → SoundGate file at registers w
-unfolding flagged
-sound file at registers to a b w e q r l m n f =
-    let s = both (getD w a false) (getD w b false) f in
-    record {
-      into = omega arith;
-      left = omega arith;
-      right = omega arith;
-      left-written = rw (← q) (s .0);
-      right-written = rw (← r) (s .1);
-    }
 
 -- where a run of one kind, AND or OR, is passed
 pub record GateRun (file : List ℕ) (from kind registers : ℕ) (w : List Bool) : Type 0 where
@@ -93,17 +58,6 @@ pub record Passes (file : List ℕ) (registers n₀ from : ℕ) (w₀ : List Boo
   pub inside : at ≤ length file
   pub long : length w ≡ length w₀
 
--- an instruction by its fields
-decodes : (file : List ℕ) (at : ℕ) (i : Instruction) → at + lengthOf i ≤ length file → fieldOf file at ≡ lengthOf i →
-    namedAt file at ≡ gives i → gives i ≡ decodeAt file at
-unfolding decodeAt sizedOf
-decodes file at i room long e =
-    let z : at + 0 ≡ at = omega arith in
-    decode-as (drop at file) (lengthOf i) (rw (field-drop at file 0, z) (sym long)) (omega (arith, length-drop at file, length-some i))
-    (omega (arith, length-drop at file)) (fieldOf file (at + 2)) (firstOf file at) (secondOf file at) (thirdOf file at)
-    (sym (field-drop at file 4)) (sym (field-drop at file 6)) (sym (field-drop at file 8)) (sym (field-drop at file 2)) i (gives i) e
-    (rw (eq-eqb (lengthOf i) (lengthOf i) refl))
-
 module _ (file : List ℕ) (registers n₀ from : ℕ) (w₀ : List Bool) where
   pub passes-none : (n : ℕ) → n ≡ n₀ → from ≤ length file → Passes file registers n₀ from w₀ n from w₀
   passes-none n e h = record { same = λ p q set. rw e; less = omega arith; inside = h; long = refl }
@@ -118,37 +72,33 @@ module _ (file : List ℕ) (registers n₀ from : ℕ) (w₀ : List Bool) where
           long = b .long ∙ g .long;
         }
 
-    passes-suc : (m : ℕ) → n ≡ suc m → (i : Instruction) (w′ : List Bool) →
-        ((p : Program) → p .registers ≡ registers → instructionOf p (flagged w) (drop at file) ≡ gives i) → uses i .sets ≡ [] →
-        Flags (uses i .writes) w w′ → at + lengthOf i ≤ length file → Passes file registers n₀ from w₀ m (at + lengthOf i) w′
-    passes-suc m q i w′ e s f h =
-        record {
-          same = λ p r set. (plain p set ∙ (sym (rest-more file p (flagged w) set m at i (e p r)) ∙ rw q at (g .same p r set)));
-          less = omega (arith, g .less);
-          inside = h;
-          long = f .long ∙ g .long;
-        }
-      where
-        plain : (p : Program) (set : ℕ → Bool) → restOf file p (flagged w′) set m (at + lengthOf i) ≡
-            restOf file p (also (flagged w) (uses i .writes)) (also set (uses i .sets)) m (at + lengthOf i)
-        plain p set = rw (f .now-flagged, s, ← also-none set)
-
 -- one gate more: length and kind are tried as one number
 module _ (file : List ℕ) (registers count from kind : ℕ) (w₀ : List Bool) (c : GateRun file from kind registers w₀) (done at : ℕ)
     (w : List Bool) (g : Passes file registers count from w₀ (count - done) at w) (l : done < count) (room : at + 10 ≤ length file)
     (s : SoundGate file at registers w) (to : ℕ) (is-to : to ≡ firstOf file at) where
   gate : fieldOf file at ≡ 10 → GateNamed file at → Passes file registers count from w₀ (count - (done + 1)) (at + 10) (set w to true)
   gate len n =
-      let u = n .used in
-      let range : (p : Program) → p .registers ≡ registers → inRange p (n .i) ≡ true =
-      λ p r. range-holds p (n .i) (rw (u, r) ((s .into, tt), (s .left, (s .right, tt)), tt, tt)) in
-      let read : every (flagged w) (uses (n .i) .reads) ≡ true = rw (u, s .left-written, s .right-written) in
-      let e : gives (n .i) ≡ decodeAt file at = decodes file at (n .i) (omega (arith, n .long)) (len ∙ sym (n .long)) (n .named) in
-      let into : to < length w = omega (arith, s .into, g .long, c .long, c .few) in
-      rw (n .long) at
-      (passes-suc file registers count from w₀ (count - done) at w g (count - (done + 1)) (omega arith) (n .i) (set w to true)
-      (λ p r. sym (admit-gives file at p (flagged w) (n .i) e (range p r) read)) (rw u)
-      (rw (u, ← is-to) (record { now-flagged = flag-set w to into; long = length-set w to true })) (omega (arith, n .long)))
+      record {
+        same = λ p r t. (sym (step p r t) ∙ rw left at (g .same p r t));
+        less = omega (arith, g .less);
+        inside = room;
+        long = length-set w to true ∙ g .long;
+      }
+    where
+      left : count - done ≡ suc (count - (done + 1))
+      left = omega arith
+
+      step : (p : Program) → p .registers ≡ registers → (t : ℕ → Bool) → restOf file p (flagged w) t (suc (count - (done + 1))) at ≡
+          restOf file p (flagged (set w to true)) t (count - (done + 1)) (at + 10)
+      step p r t =
+          let u = n .used in
+          let into : to < length w = omega (arith, s .into, g .long, c .long, c .few) in
+          let e : gives (n .i) ≡ instructionOf p (flagged w) (drop at file) =
+          admit-gives file at p (flagged w) (n .i) (decodes file at (n .i) (omega (arith, n .long)) (len ∙ sym (n .long)) (n .named))
+          (range-holds p (n .i) (rw (u, r) ((s .into, tt), (s .left, (s .right, tt)), tt, tt)))
+          (rw (u, s .left-written, s .right-written)) in
+          rw (flag-set w to into, is-to)
+          (rw (u, n .long, ← also-none t) at (rest-more file p (flagged w) t (count - (done + 1)) at (n .i) (sym e)))
 
   pub passes-turn : (head : ℕ) → (head ≡ fieldOf file at + 65536 * fieldOf file (at + 2)) × (fieldOf file at < 65536) →
       head ≡ 10 + 65536 * kind → Passes file registers count from w₀ (count - (done + 1)) (at + 10) (set w to true)

@@ -12,7 +12,7 @@ use lib.Seq.{getD-set-same, getD-set-other}
 use Rattle.laws.specs.Every.{every, every-below}
 use Rattle.laws.specs.Tests.{both}
 use Rattle.laws.specs.Lists.{Each, each-more}
-use Rattle.laws.specs.Outcome.{refused, gives, refuse, _>>_, _>>=_, passed, bound, gives-inj}
+use Rattle.laws.specs.Outcome.{gives, passed, bound, gives-inj}
 use Rattle.programs.specs.Limits.{most-registers, most-inputs, most-outputs, within}
 use Rattle.programs.specs.Instructions.{uses, lengthOf, decodeOf, decodeAt}
 use Rattle.programs.specs.Reading.{within-means}
@@ -23,7 +23,7 @@ use Rattle.checker.specs.Checks.{also, inRange, instructionOf}
 use Rattle.checker.specs.Standing.{InRange, reads-stands}
 
 -- what flags say
-unfoldable pub flagged : List Bool → ℕ → Bool
+abbrev pub flagged : List Bool → ℕ → Bool
 flagged flags r = getD flags r false
 
 -- ---- operands: the test, and what it says
@@ -59,16 +59,13 @@ tested p (Or to a b) = ltb to (p .registers) && ltb a (p .registers) && ltb b (p
 tested p (Output o a) = ltb a (p .registers) && ltb o (p .outputs)
 
 pub range-tested : (p : Program) (i j : Instruction) → i ≡ j → tested p j ≡ inRange p i
-range-tested p i j e = rw e (sym (by j))
-  where
-    by : (j : Instruction) → inRange p j ≡ tested p j
-    by (Ones to) = simp and-true
-    by (Zero to) = simp and-true
-    by (Input to n) = simp and-true
-    by (Not to a) = simp and-true
-    by (And to a b) = simp (and-true, and-assoc)
-    by (Or to a b) = simp (and-true, and-assoc)
-    by (Output o a) = simp and-true
+range-tested p i (Ones to) e = rw e (simp and-true)
+range-tested p i (Zero to) e = rw e (simp and-true)
+range-tested p i (Input to n) e = rw e (simp and-true)
+range-tested p i (Not to a) e = rw e (simp and-true)
+range-tested p i (And to a b) e = rw e (simp (and-true, and-assoc))
+range-tested p i (Or to a b) e = rw e (simp (and-true, and-assoc))
+range-tested p i (Output o a) e = rw e (simp and-true)
 
 -- with more registers, inputs and outputs
 pub range-wider : (nr ni nq mr mi mq : ℕ) (i : Instruction) → nr ≤ mr → ni ≤ mi → nq ≤ mq → InRange nr ni nq i → InRange mr mi mq i
@@ -92,7 +89,7 @@ pub record Flags (xs : List ℕ) (w w′ : List Bool) : Type 0 where
   pub long : length w′ ≡ length w
 
 pub flag-set : (w : List Bool) (to : ℕ) → to < length w → flagged (set w to true) ≡ also (flagged w) (to ∷ [])
-unfolding flagged also
+unfolding also
 flag-set w to h = fun-ext (λ r. by r (ℕ-discrete r to))
   where
     by : (r : ℕ) → Dec (r ≡ to) → getD (set w to true) r false ≡ (eqb to r || getD w r false)
@@ -103,14 +100,12 @@ pub also-none : (t : ℕ → Bool) → t ≡ also t []
 unfolding also
 also-none t = fun-ext (λ r. refl)
 
--- the flags of a list of one, and of two
-pub flagged-one : (w : List Bool) (xs : List ℕ) (a : ℕ) → xs ≡ a ∷ [] → getD w a false ≡ every (flagged w) xs
-unfolding flagged
-flagged-one w xs a e = rw e (sym (and-true (getD w a false)))
+-- a test of a list of one, and of two
+pub every-one : (t : ℕ → Bool) (xs : List ℕ) (a : ℕ) → xs ≡ a ∷ [] → t a ≡ every t xs
+every-one t xs a e = rw (e, and-true)
 
-pub flagged-two : (w : List Bool) (xs : List ℕ) (a b : ℕ) → xs ≡ a ∷ b ∷ [] → (getD w a false && getD w b false) ≡ every (flagged w) xs
-unfolding flagged
-flagged-two w xs a b e = rw (e, and-true)
+pub every-two : (t : ℕ → Bool) (xs : List ℕ) (a b : ℕ) → xs ≡ a ∷ b ∷ [] → (t a && t b) ≡ every t xs
+every-two t xs a b e = rw (e, and-true)
 
 -- where the list is of none, or of one below the number of flags
 pub unmarked : (xs : List ℕ) (w : List Bool) → xs ≡ [] → Flags xs w w
@@ -136,24 +131,10 @@ instruction-means p written bytes i e =
       rw same at (not-false (every written (uses (c1 .0) .reads)) (c3 .0)),
     )
 
--- the ways through its checks
-module _ (file : List ℕ) (at : ℕ) (p : Program) (written : ℕ → Bool) where
-  pub admit-refused : (k : ℕ) → refused k ≡ decodeAt file at → refused k ≡ instructionOf p written (drop at file)
-  unfolding instructionOf decodeAt
-  admit-refused k e = rw (sym e)
-
-  module _ (i : Instruction) (e : gives i ≡ decodeAt file at) where
-    pub admit-operand : inRange p i ≡ false → refused 8 ≡ instructionOf p written (drop at file)
-    unfolding instructionOf decodeAt
-    admit-operand r = rw (sym e, r)
-
-    pub admit-unwritten : inRange p i ≡ true → every written (uses i .reads) ≡ false → refused 9 ≡ instructionOf p written (drop at file)
-    unfolding instructionOf decodeAt
-    admit-unwritten r w = rw (sym e, r, w)
-
-    pub admit-gives : inRange p i ≡ true → every written (uses i .reads) ≡ true → gives i ≡ instructionOf p written (drop at file)
-    unfolding instructionOf decodeAt
-    admit-gives r w = rw (sym e, r, w)
+pub admit-gives : (file : List ℕ) (at : ℕ) (p : Program) (written : ℕ → Bool) (i : Instruction) → gives i ≡ decodeAt file at →
+    inRange p i ≡ true → every written (uses i .reads) ≡ true → gives i ≡ instructionOf p written (drop at file)
+unfolding instructionOf decodeAt
+admit-gives file at p written i e r w = rw (sym e, r, w)
 
 pub admit-limits : (p : Program) (written : ℕ → Bool) (bytes : List ℕ) (i : Instruction) → gives i ≡ instructionOf p written bytes →
     within p ≡ true → InRange most-registers most-inputs most-outputs i

@@ -1,17 +1,17 @@
 -- Where instructions stand in bytes, for code that goes through them by kind and length. Assumes nothing.
-use Prim.Native.Nat.{ℕ, zero, suc, _+_, _-_, _≤_, _<_}
+use Prim.Native.Nat.{ℕ, zero, suc, _+_, _≤_, _<_}
 use mathlib.Core.Path.{_≡_, refl, sym, _∙_}
 use mathlib.Core.List.{List, [], _∷_}
 use mathlib.Core.Logic.{⊎-elim}
-use native.Mathlib.Nat.{eq-or-lt-of-le, not-suc-le-zero, le-of-suc-le-suc}
+use native.Mathlib.Nat.{eq-or-lt-of-le}
 use native.Mathlib.Omega.{arith}
 use lib.ListN.{length, drop, length-drop}
 use lib.Seq.{drop-drop}
 use Rattle.laws.specs.Lists.{Each}
 use Rattle.laws.specs.Outcome.{Outcome, refused, gives, gives-inj}
 use Rattle.fields.specs.Fields.{fieldOf}
-use Rattle.programs.specs.Instructions.{uses, kindOf, lengthOf, ofKind, decodeOf}
-use Rattle.programs.specs.Inverse.{field-drop, length-some, decode-reads, named-kind}
+use Rattle.programs.specs.Instructions.{uses, kindOf, lengthOf, ofKind, decodeOf, decodeAt}
+use Rattle.programs.specs.Inverse.{field-drop, kind-says, decode-reads, reads-decode, named}
 use Rattle.programs.specs.declared.description.Instruction.{Instruction}
 use Rattle.programs.specs.declared.description.Instruction.the-variants.{Ones, Zero, Input, Not, And, Or, Output}
 
@@ -49,101 +49,154 @@ pub record Standing (n : ℕ) (bytes : List ℕ) : Type 0 where
   pub formed : Formed n nr ni nq bytes
 
 -- ---- one instruction
--- the operands of an instruction that stands at a byte of a file, and the instruction that its fields name
-abbrev pub firstOf : List ℕ → ℕ → ℕ
-firstOf file at = fieldOf file (at + 4)
+module _ (file : List ℕ) (at : ℕ) where
+  -- the operands of an instruction that stands at a byte of a file, and the instruction that its fields name
+  abbrev pub firstOf : ℕ
+  firstOf = fieldOf file (at + 4)
 
-abbrev pub secondOf : List ℕ → ℕ → ℕ
-secondOf file at = fieldOf file (at + 6)
+  abbrev pub secondOf : ℕ
+  secondOf = fieldOf file (at + 6)
 
-abbrev pub thirdOf : List ℕ → ℕ → ℕ
-thirdOf file at = fieldOf file (at + 8)
+  abbrev pub thirdOf : ℕ
+  thirdOf = fieldOf file (at + 8)
 
-abbrev pub namedAt : List ℕ → ℕ → Outcome Instruction
-namedAt file at = ofKind (fieldOf file (at + 2)) (firstOf file at) (secondOf file at) (thirdOf file at)
+  abbrev pub namedAt : Outcome Instruction
+  namedAt = ofKind (fieldOf file (at + 2)) firstOf secondOf thirdOf
 
--- an AND or an OR is named there: an instruction of three operands
-pub record GateNamed (file : List ℕ) (at : ℕ) : Type 0 where
-  pub i : Instruction
-  pub named : namedAt file at ≡ gives i
-  pub long : lengthOf i ≡ 10
-  pub used : uses i ≡ record { reads = secondOf file at ∷ thirdOf file at ∷ []; writes = firstOf file at ∷ []; takes = []; sets = [] }
+  -- an AND or an OR is named there: an instruction of three operands
+  pub record GateNamed : Type 0 where
+    pub i : Instruction
+    pub named : namedAt ≡ gives i
+    pub long : lengthOf i ≡ 10
+    pub used : uses i ≡ record { reads = secondOf ∷ thirdOf ∷ []; writes = firstOf ∷ []; takes = []; sets = [] }
 
--- it stands at a byte of a file
-pub record Stands (file : List ℕ) (at : ℕ) (i : Instruction) : Type 0 where
-  pub reads : decodeOf (drop at file) ≡ gives i
-  pub room : at + lengthOf i ≤ length file
-  pub long : fieldOf file at ≡ lengthOf i
-  pub named : namedAt file at ≡ gives i
+  -- it stands at a byte of a file
+  pub record Stands (i : Instruction) : Type 0 where
+    pub reads : decodeOf (drop at file) ≡ gives i
+    pub room : at + lengthOf i ≤ length file
+    pub long : fieldOf file at ≡ lengthOf i
+    pub named : namedAt ≡ gives i
 
--- some instruction stands there, with its operands in range
-pub record ReadyAt (file : List ℕ) (at nr ni nq : ℕ) : Type 0 where
-  pub i : Instruction
-  pub stands : Stands file at i
-  pub range : InRange nr ni nq i
+  -- some instruction stands there, with its operands in range
+  pub record ReadyAt (nr ni nq : ℕ) : Type 0 where
+    pub i : Instruction
+    pub stands : Stands i
+    pub range : InRange nr ni nq i
 
--- an AND or an OR stands there, with its operands in range
-pub record Gate (file : List ℕ) (at nr : ℕ) : Type 0 where
-  pub room : at + 10 ≤ length file
-  pub into : firstOf file at < nr
-  pub left : secondOf file at < nr
-  pub right : thirdOf file at < nr
+  -- an AND or an OR stands there, with its operands in range
+  pub record Gate (nr : ℕ) : Type 0 where
+    pub room : at + 10 ≤ length file
+    pub into : firstOf < nr
+    pub left : secondOf < nr
+    pub right : thirdOf < nr
 
-pub gate-named : (file : List ℕ) (at kind : ℕ) → 5 ≤ kind → kind ≤ 6 → fieldOf file (at + 2) ≡ kind → GateNamed file at
-gate-named file at kind low high k =
-    ⊎-elim
-    (λ (e : 5 ≡ kind).
-    record { i = And (firstOf file at) (secondOf file at) (thirdOf file at); named = rw (k ∙ sym e); long = refl; used = refl })
-    (λ (e : 5 < kind).
-    let six : kind ≡ 6 = omega arith in
-    record { i = Or (firstOf file at) (secondOf file at) (thirdOf file at); named = rw (k ∙ six); long = refl; used = refl })
-    (eq-or-lt-of-le low)
+  pub gate-named : (kind : ℕ) → 5 ≤ kind → kind ≤ 6 → fieldOf file (at + 2) ≡ kind → GateNamed
+  gate-named kind low high k =
+      ⊎-elim
+      (λ (e : 5 ≡ kind).
+      record { i = And firstOf secondOf thirdOf; named = rw (k ∙ sym e); long = refl; used = refl })
+      (λ (e : 5 < kind).
+      let six : kind ≡ 6 = omega arith in
+      record { i = Or firstOf secondOf thirdOf; named = rw (k ∙ six); long = refl; used = refl })
+      (eq-or-lt-of-le low)
 
-named-gate : (file : List ℕ) (at nr ni nq : ℕ) (g : GateNamed file at) → Stands file at (g .i) × InRange nr ni nq (g .i) → Gate file at nr
-named-gate file at nr ni nq g s =
-    let r = rw (g .used) at (s .1) in
-    record { room = omega (arith, s .0 .room, g .long); into = r .0 .0; left = r .1 .0; right = r .1 .1 .0 }
+  pub reads-stands : (i : Instruction) → decodeOf (drop at file) ≡ gives i → Stands i
+  reads-stands i e =
+      let r = decode-reads (drop at file) i e in
+      let z : at + 0 ≡ at = omega arith in
+      record {
+        reads = e;
+        room = omega (arith, r .room, length-drop at file, kind-says i .0);
+        long = rw (field-drop at file 0, z) at (r .long);
+        named = rw (field-drop at file 2, field-drop at file 4, field-drop at file 6, field-drop at file 8) at (r .named);
+      }
 
-pub reads-stands : (file : List ℕ) (at : ℕ) (i : Instruction) → decodeOf (drop at file) ≡ gives i → Stands file at i
-reads-stands file at i e =
-    let r = decode-reads (drop at file) i e in
-    let z : at + 0 ≡ at = omega arith in
-    record {
-      reads = e;
-      room = omega (arith, r .room, length-drop at file, length-some i);
-      long = rw (field-drop at file 0, z) at (r .long);
-      named = rw (field-drop at file 2, field-drop at file 4, field-drop at file 6, field-drop at file 8) at (r .named);
-    }
+  pub decodes : (i : Instruction) → at + lengthOf i ≤ length file → fieldOf file at ≡ lengthOf i →
+      namedAt ≡ gives i → gives i ≡ decodeAt file at
+  unfolding decodeAt
+  decodes i room long e =
+      let z : at + 0 ≡ at = omega arith in
+      sym (reads-decode (drop at file) i (record {
+        room = omega (arith, length-drop at file);
+        long = rw (field-drop at file 0, z) long;
+        named = rw (field-drop at file 2, field-drop at file 4, field-drop at file 6, field-drop at file 8) e;
+      }))
+
+  -- the kind tells the instruction
+  module _ (nr ni nq : ℕ) (r : ReadyAt nr ni nq) where
+    pub ready-room : at + 6 ≤ length file
+    ready-room = omega (arith, r .stands .room, kind-says (r .i) .0)
+
+    -- the instruction that the kind's clause says is the one that stands there
+    by-kind : {i : Instruction} → namedAt ≡ gives i → Stands i × InRange nr ni nq i
+    by-kind {i} e =
+        let q : r .i ≡ i = gives-inj (sym (r .stands .named) ∙ e) in
+        (rw q at (r .stands), rw q at (r .range))
+
+    module _ (k : ℕ) (is-k : k ≡ fieldOf file (at + 2)) where
+      is-named : {i : Instruction} {n : ℕ} → k ≡ n → ofKind n firstOf secondOf thirdOf ≡ gives i →
+          Stands i × InRange nr ni nq i
+      is-named e q = by-kind (rw (sym is-k ∙ e) q)
+
+      kind-is : k ≡ kindOf (r .i)
+      kind-is =
+          let bytes = drop at file in
+          is-k ∙ rw (field-drop at file 2) at (named bytes (r .i) (decode-reads bytes (r .i) (r .stands .reads)) .kind)
+
+      pub is-ones : k ≡ 1 → Stands (Ones firstOf) × (firstOf < nr)
+      is-ones e = let s = is-named e refl in (s .0, s .1 .0 .0)
+
+      pub is-zero : k ≡ 2 → Stands (Zero firstOf) × (firstOf < nr)
+      is-zero e = let s = is-named e refl in (s .0, s .1 .0 .0)
+
+      pub is-input : k ≡ 3 → Stands (Input firstOf secondOf) × ((firstOf < nr) × (secondOf < ni))
+      is-input e = let s = is-named e refl in (s .0, (s .1 .0 .0, s .1 .2 .0))
+
+      pub is-not : k ≡ 4 → Stands (Not firstOf secondOf) × ((firstOf < nr) × (secondOf < nr))
+      is-not e = let s = is-named e refl in (s .0, (s .1 .0 .0, s .1 .1 .0))
+
+      pub is-and : k ≡ 5 → Stands (And firstOf secondOf thirdOf) × Gate nr
+      is-and e =
+          let s = is-named e refl in
+          (s .0, record { room = s .0 .room; into = s .1 .0 .0; left = s .1 .1 .0; right = s .1 .1 .1 .0 })
+
+      pub is-or : k ≡ 6 → Stands (Or firstOf secondOf thirdOf) × Gate nr
+      is-or e =
+          let s = is-named e refl in
+          (s .0, record { room = s .0 .room; into = s .1 .0 .0; left = s .1 .1 .0; right = s .1 .1 .1 .0 })
+
+      pub is-output : (k ≡ 1 → ⊥) → (k ≡ 2 → ⊥) → (k ≡ 3 → ⊥) → (k ≡ 4 → ⊥) → (k ≡ 5 → ⊥) → (k ≡ 6 → ⊥) →
+          Stands (Output firstOf secondOf) × ((firstOf < nq) × (secondOf < nr))
+      is-output n1 n2 n3 n4 n5 n6 =
+          let e : k ≡ 7 = omega (arith, kind-is, kind-says (r .i)) in
+          let s = is-named e refl in
+          (s .0, (s .1 .3 .0, s .1 .1 .0))
+
+      -- all but ONES and ZERO have a second operand
+      pub second-room : (k ≡ 1 → ⊥) → (k ≡ 2 → ⊥) → at + 8 ≤ length file
+      second-room n1 n2 = omega (arith, r .stands .room, kind-says (r .i) .3 (omega (arith, kind-is, kind-says (r .i))))
 
 -- ---- instructions one after another
-module _ (n : ℕ) (bytes : List ℕ) (i : Instruction) (e : decodeOf bytes ≡ gives i) where
-  pub read-first : readOf (suc n) bytes ≡ i ∷ readOf n (drop (lengthOf i) bytes)
-  unfolding readOf
-  read-first = rw e
-
-  pub formed-first : (nr ni nq : ℕ) → Formed (suc n) nr ni nq bytes → InRange nr ni nq i × Formed n nr ni nq (drop (lengthOf i) bytes)
-  unfolding Formed
-  formed-first nr ni nq h = rw e at h
+pub read-first : (n : ℕ) (bytes : List ℕ) (i : Instruction) → decodeOf bytes ≡ gives i →
+    readOf (suc n) bytes ≡ i ∷ readOf n (drop (lengthOf i) bytes)
+unfolding readOf
+read-first n bytes i e = rw e
 
 pub formed-next : (n nr ni nq : ℕ) (file : List ℕ) (at : ℕ) (i : Instruction) → decodeOf (drop at file) ≡ gives i →
     Formed (suc n) nr ni nq (drop at file) → Formed n nr ni nq (drop (at + lengthOf i) file)
-formed-next n nr ni nq file at i e f =
-    rw (drop-drop (lengthOf i) at file) at (formed-first n (drop at file) i e nr ni nq f .1)
-
-pub formed-ready : (n nr ni nq : ℕ) (file : List ℕ) (at : ℕ) → Formed (suc n) nr ni nq (drop at file) → ReadyAt file at nr ni nq
 unfolding Formed
-formed-ready n nr ni nq file at h = by (decodeOf (drop at file)) refl h
+formed-next n nr ni nq file at i e f = rw (drop-drop (lengthOf i) at file) at ((rw e at f) .1)
+
+-- something is left, and what stands at the front of it
+pub some-ready : (n nr ni nq : ℕ) (file : List ℕ) (at : ℕ) → 0 < n → Formed n nr ni nq (drop at file) → ReadyAt file at nr ni nq
+unfolding Formed
+some-ready zero nr ni nq file at l f = absurd (omega arith)
+some-ready (suc n) nr ni nq file at l f = by (decodeOf (drop at file)) refl f
   where
     by : (o : Outcome Instruction) → decodeOf (drop at file) ≡ o →
         onGives o ⊥ (λ i. InRange nr ni nq i × Formed n nr ni nq (drop (lengthOf i) (drop at file))) → ReadyAt file at nr ni nq
     by (refused k) e z = absurd z
     by (gives i) e z = record { i = i; stands = reads-stands file at i e; range = z .0 }
-
--- in the code's words: something is left, and what stands at the front of it
-pub some-ready : (n nr ni nq : ℕ) (file : List ℕ) (at : ℕ) → 0 < n → Formed n nr ni nq (drop at file) → ReadyAt file at nr ni nq
-some-ready n nr ni nq file at l f =
-    let e : n ≡ suc (n - 1) = omega arith in
-    formed-ready (n - 1) nr ni nq file at (rw e at f)
 
 -- fewer of them are there too
 onGives-map : (o : Outcome Instruction) (P Q : Instruction → Type 0) → ((i : Instruction) → P i → Q i) → onGives o ⊥ P → onGives o ⊥ Q
@@ -153,86 +206,9 @@ onGives-map (gives i) P Q f h = f i h
 pub formed-less : (m n nr ni nq : ℕ) (bytes : List ℕ) → m ≤ n → Formed n nr ni nq bytes → Formed m nr ni nq bytes
 unfolding Formed
 formed-less zero n nr ni nq bytes l h = tt
-formed-less (suc m) zero nr ni nq bytes l h = absurd (not-suc-le-zero l)
+formed-less (suc m) zero nr ni nq bytes l h = absurd (omega arith)
 formed-less (suc m) (suc n) nr ni nq bytes l h =
-    onGives-map (decodeOf bytes) _ _ (λ i g. (g .0, formed-less m n nr ni nq (drop (lengthOf i) bytes) (le-of-suc-le-suc l) (g .1))) h
-
--- ---- the kind tells the instruction
-last-kind : (k : ℕ) (i : Instruction) → k ≡ kindOf i → (k ≡ 1 → ⊥) → (k ≡ 2 → ⊥) → (k ≡ 3 → ⊥) → (k ≡ 4 → ⊥) → (k ≡ 5 → ⊥) →
-    (k ≡ 6 → ⊥) → k ≡ 7
-last-kind k (Ones to) e n1 n2 n3 n4 n5 n6 = absurd (n1 e)
-last-kind k (Zero to) e n1 n2 n3 n4 n5 n6 = absurd (n2 e)
-last-kind k (Input to n) e n1 n2 n3 n4 n5 n6 = absurd (n3 e)
-last-kind k (Not to a) e n1 n2 n3 n4 n5 n6 = absurd (n4 e)
-last-kind k (And to a b) e n1 n2 n3 n4 n5 n6 = absurd (n5 e)
-last-kind k (Or to a b) e n1 n2 n3 n4 n5 n6 = absurd (n6 e)
-last-kind k (Output o a) e n1 n2 n3 n4 n5 n6 = e
-
-long-kind : (k : ℕ) (i : Instruction) → k ≡ kindOf i → (k ≡ 1 → ⊥) → (k ≡ 2 → ⊥) → 8 ≤ lengthOf i
-long-kind k (Ones to) e n1 n2 = absurd (n1 e)
-long-kind k (Zero to) e n1 n2 = absurd (n2 e)
-long-kind k (Input to n) e n1 n2 = omega arith
-long-kind k (Not to a) e n1 n2 = omega arith
-long-kind k (And to a b) e n1 n2 = omega arith
-long-kind k (Or to a b) e n1 n2 = omega arith
-long-kind k (Output o a) e n1 n2 = omega arith
-
-module _ (file : List ℕ) (at nr ni nq : ℕ) (r : ReadyAt file at nr ni nq) where
-  pub ready-room : at + 6 ≤ length file
-  ready-room = omega (arith, r .stands .room, length-some (r .i))
-
-  -- the instruction that the kind's clause says is the one that stands there
-  by-kind : (i : Instruction) → namedAt file at ≡ gives i → Stands file at i × InRange nr ni nq i
-  by-kind i e =
-      let q : r .i ≡ i = gives-inj (sym (r .stands .named) ∙ e) in
-      (rw q at (r .stands), rw q at (r .range))
-
-  module _ (k : ℕ) (is-k : k ≡ fieldOf file (at + 2)) where
-    kind-is : k ≡ kindOf (r .i)
-    kind-is = is-k ∙ named-kind (fieldOf file (at + 2)) (firstOf file at) (secondOf file at) (thirdOf file at) (r .i) (r .stands .named)
-
-    pub is-ones : k ≡ 1 → Stands file at (Ones (firstOf file at)) × (firstOf file at < nr)
-    is-ones e =
-        let s = by-kind (Ones (firstOf file at)) (rw (sym is-k ∙ e)) in
-        (s .0, s .1 .0 .0)
-
-    pub is-zero : k ≡ 2 → Stands file at (Zero (firstOf file at)) × (firstOf file at < nr)
-    is-zero e =
-        let s = by-kind (Zero (firstOf file at)) (rw (sym is-k ∙ e)) in
-        (s .0, s .1 .0 .0)
-
-    pub is-input : k ≡ 3 → Stands file at (Input (firstOf file at) (secondOf file at)) × ((firstOf file at < nr) × (secondOf file at < ni))
-    is-input e =
-        let s = by-kind (Input (firstOf file at) (secondOf file at)) (rw (sym is-k ∙ e)) in
-        (s .0, (s .1 .0 .0, s .1 .2 .0))
-
-    pub is-not : k ≡ 4 → Stands file at (Not (firstOf file at) (secondOf file at)) × ((firstOf file at < nr) × (secondOf file at < nr))
-    is-not e =
-        let s = by-kind (Not (firstOf file at) (secondOf file at)) (rw (sym is-k ∙ e)) in
-        (s .0, (s .1 .0 .0, s .1 .1 .0))
-
-    pub is-and : k ≡ 5 → Stands file at (And (firstOf file at) (secondOf file at) (thirdOf file at)) × Gate file at nr
-    is-and e =
-        let n : namedAt file at ≡ gives (And (firstOf file at) (secondOf file at) (thirdOf file at)) = rw (sym is-k ∙ e) in
-        let s = by-kind (And (firstOf file at) (secondOf file at) (thirdOf file at)) n in
-        (s .0, named-gate file at nr ni nq (record { i = _; named = n; long = refl; used = refl }) s)
-
-    pub is-or : k ≡ 6 → Stands file at (Or (firstOf file at) (secondOf file at) (thirdOf file at)) × Gate file at nr
-    is-or e =
-        let n : namedAt file at ≡ gives (Or (firstOf file at) (secondOf file at) (thirdOf file at)) = rw (sym is-k ∙ e) in
-        let s = by-kind (Or (firstOf file at) (secondOf file at) (thirdOf file at)) n in
-        (s .0, named-gate file at nr ni nq (record { i = _; named = n; long = refl; used = refl }) s)
-
-    pub is-output : (k ≡ 1 → ⊥) → (k ≡ 2 → ⊥) → (k ≡ 3 → ⊥) → (k ≡ 4 → ⊥) → (k ≡ 5 → ⊥) → (k ≡ 6 → ⊥) →
-        Stands file at (Output (firstOf file at) (secondOf file at)) × ((firstOf file at < nq) × (secondOf file at < nr))
-    is-output n1 n2 n3 n4 n5 n6 =
-        let e : k ≡ 7 = last-kind k (r .i) kind-is n1 n2 n3 n4 n5 n6 in
-        let s = by-kind (Output (firstOf file at) (secondOf file at)) (rw (sym is-k ∙ e)) in
-        (s .0, (s .1 .3 .0, s .1 .1 .0))
-
-    -- all but ONES and ZERO have a second operand
-    pub second-room : (k ≡ 1 → ⊥) → (k ≡ 2 → ⊥) → at + 8 ≤ length file
-    second-room n1 n2 = omega (arith, r .stands .room, long-kind k (r .i) kind-is n1 n2)
+    onGives-map (decodeOf bytes) _ _ (λ i g. (g .0, formed-less m n nr ni nq (drop (lengthOf i) bytes) (omega arith) (g .1))) h
 
 -- ---- four gates of one kind, one after another
 pub record Four (file : List ℕ) (at kind : ℕ) : Type 0 where
@@ -241,49 +217,41 @@ pub record Four (file : List ℕ) (at kind : ℕ) : Type 0 where
   pub third : fieldOf file (at + 22) ≡ kind
   pub fourth : fieldOf file (at + 32) ≡ kind
 
-module _ (nr ni nq : ℕ) (file : List ℕ) (kind : ℕ) (low : 5 ≤ kind) (high : kind ≤ 6) where
-  -- what a gate's kind says of its place and of what follows
-  gate-first : (n at : ℕ) → Formed (suc n) nr ni nq (drop at file) → fieldOf file (at + 2) ≡ kind →
-      Gate file at nr × Formed n nr ni nq (drop (at + 10) file)
-  gate-first n at f k = by (gate-named file at kind low high k)
-    where
-      by : GateNamed file at → Gate file at nr × Formed n nr ni nq (drop (at + 10) file)
-      by g =
-          let s = by-kind file at nr ni nq (formed-ready n nr ni nq file at f) (g .i) (g .named) in
-          (named-gate file at nr ni nq g s, rw (g .long) at (formed-next n nr ni nq file at (g .i) (s .0 .reads) f))
-
-  -- the same in the words of code that has passed one, two and three of them
-  gate-at : (n at place next : ℕ) → place ≡ at + 2 → next ≡ at + 10 → Formed (suc n) nr ni nq (drop at file) → fieldOf file place ≡ kind →
-      Gate file at nr × Formed n nr ni nq (drop next file)
-  gate-at n at place next e q f k = rw q (gate-first n at f (rw e at k))
-
-  module _ (n at : ℕ) (f : Formed (suc (suc (suc (suc n)))) nr ni nq (drop at file)) where
-    one-passed : fieldOf file (at + 2) ≡ kind → Gate file at nr × Formed (suc (suc (suc n))) nr ni nq (drop (at + 10) file)
-    one-passed k = gate-first (suc (suc (suc n))) at f k
-
-    two-passed : fieldOf file (at + 2) ≡ kind → fieldOf file (at + 12) ≡ kind →
-        Gate file (at + 10) nr × Formed (suc (suc n)) nr ni nq (drop (at + 20) file)
-    two-passed k l = gate-at (suc (suc n)) (at + 10) (at + 12) (at + 20) (omega arith) (omega arith) (one-passed k .1) l
-
-    three-passed : fieldOf file (at + 2) ≡ kind → fieldOf file (at + 12) ≡ kind → fieldOf file (at + 22) ≡ kind →
-        Gate file (at + 20) nr × Formed (suc n) nr ni nq (drop (at + 30) file)
-    three-passed k l m = gate-at (suc n) (at + 20) (at + 22) (at + 30) (omega arith) (omega arith) (two-passed k l .1) m
-
 -- what code that tries the four kinds needs
 module _ (file : List ℕ) (at kind : ℕ) (low : 5 ≤ kind) (high : kind ≤ 6) (s : Standing 4 (drop at file)) where
-  room-at : (n place : ℕ) → Formed (suc n) (s .nr) (s .ni) (s .nq) (drop place file) → place + 6 ≤ length file
-  room-at n place f = ready-room file place (s .nr) (s .ni) (s .nq) (formed-ready n (s .nr) (s .ni) (s .nq) file place f)
+  abbrev Left : ℕ → ℕ → Type 0
+  Left n place = Formed n (s .nr) (s .ni) (s .nq) (drop place file)
+
+  ready-at : (n place : ℕ) → Left (suc n) place → ReadyAt file place (s .nr) (s .ni) (s .nq)
+  ready-at n place f = some-ready (suc n) (s .nr) (s .ni) (s .nq) file place (omega arith) f
+
+  room-at : (n place : ℕ) → Left (suc n) place → place + 6 ≤ length file
+  room-at n place f = ready-room file place _ _ _ (ready-at n place f)
+
+  passed : (n place named next : ℕ) → named ≡ place + 2 → next ≡ place + 10 → Left (suc n) place → fieldOf file named ≡ kind → Left n next
+  passed n place named next p q f k = rw q (by (gate-named file place kind low high (rw p at k)))
+    where
+      by : GateNamed file place → Left n (place + 10)
+      by g =
+          let stands = by-kind file place _ _ _ (ready-at n place f) (g .named) .0 in
+          rw (g .long) at (formed-next n _ _ _ file place (g .i) (stands .reads) f)
 
   pub four-room : at + 6 ≤ length file
   four-room = room-at 3 at (s .formed)
 
   module _ (k : fieldOf file (at + 2) ≡ kind) where
+    three-left : Left 3 (at + 10)
+    three-left = passed 3 at _ _ refl refl (s .formed) k
+
     pub three-room : at + 16 ≤ length file
-    three-room = omega (arith, room-at 2 (at + 10) (one-passed (s .nr) (s .ni) (s .nq) file kind low high 0 at (s .formed) k .1))
+    three-room = omega (arith, room-at 2 (at + 10) three-left)
 
     module _ (l : fieldOf file (at + 12) ≡ kind) where
+      two-left : Left 2 (at + 20)
+      two-left = passed 2 (at + 10) (at + 12) (at + 20) (omega arith) (omega arith) three-left l
+
       pub two-room : at + 26 ≤ length file
-      two-room = omega (arith, room-at 1 (at + 20) (two-passed (s .nr) (s .ni) (s .nq) file kind low high 0 at (s .formed) k l .1))
+      two-room = omega (arith, room-at 1 (at + 20) two-left)
 
       pub one-room : fieldOf file (at + 22) ≡ kind → at + 36 ≤ length file
-      one-room m = omega (arith, room-at 0 (at + 30) (three-passed (s .nr) (s .ni) (s .nq) file kind low high 0 at (s .formed) k l m .1))
+      one-room m = omega (arith, room-at 0 (at + 30) (passed 1 (at + 20) (at + 22) (at + 30) (omega arith) (omega arith) two-left m))

@@ -4,7 +4,7 @@ use mathlib.Core.Bool.{not}
 use mathlib.Core.List.{List, [], _∷_, _++_}
 use lib.Dec.{eqb, ltb}
 use lib.ListN.{length}
-use Rattle.laws.specs.Outcome.{Outcome, refused, gives, refuse, _>>_, _>>=_}
+use Rattle.laws.specs.Outcome.{Outcome, refused, gives, refuse, _>>_}
 use Rattle.fields.specs.Fields.{fieldOf}
 use Rattle.fields.specs.Refusal.{numberOf}
 use Rattle.programs.specs.Limits.{within}

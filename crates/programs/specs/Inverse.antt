@@ -16,7 +16,7 @@ use Rattle.fields.specs.Fields.{fieldOf, field-small}
 use Rattle.programs.specs.Limits.{within}
 use Rattle.programs.specs.Records.{recordBytes}
 use Rattle.programs.specs.Reading.{length-fields, length-instruction, encode-gives}
-use Rattle.programs.specs.Reading.{header-long, header-numbers, header-read, write-header-gives}
+use Rattle.programs.specs.Reading.{header-long, afterKind, header-numbers, write-header-gives}
 use Rattle.programs.specs.Instructions.{ofKind, sizedOf, kindOf, lengthOf, operandsOf, instructionBytes, encodeOf, decodeOf, decodeAt}
 use Rattle.programs.specs.Header.{header-length, header-kind, headerBytes, headerOf, writeHeaderOf, numbersOf}
 use Rattle.programs.specs.declared.description.Program.{Program}
@@ -29,14 +29,15 @@ field-drop n bytes k =
     let e : n + (k + 1) ≡ n + k + 1 = omega arith in
     rw (getD-drop n bytes k 0, getD-drop n bytes (k + 1) 0, e)
 
-pub length-some : (i : Instruction) → 6 ≤ lengthOf i
-length-some (Ones to) = omega arith
-length-some (Zero to) = omega arith
-length-some (Input to n) = omega arith
-length-some (Not to a) = omega arith
-length-some (And to a b) = omega arith
-length-some (Or to a b) = omega arith
-length-some (Output o a) = omega arith
+-- of every kind in the table: its number, and its length by its operands
+pub kind-says : (i : Instruction) → (6 ≤ lengthOf i) × (0 < kindOf i) × (kindOf i ≤ 7) × (2 < kindOf i → 8 ≤ lengthOf i)
+kind-says (Ones to) = (omega arith, omega arith, omega arith, λ l. omega arith)
+kind-says (Zero to) = (omega arith, omega arith, omega arith, λ l. omega arith)
+kind-says (Input to n) = (omega arith, omega arith, omega arith, λ l. omega arith)
+kind-says (Not to a) = (omega arith, omega arith, omega arith, λ l. omega arith)
+kind-says (And to a b) = (omega arith, omega arith, omega arith, λ l. omega arith)
+kind-says (Or to a b) = (omega arith, omega arith, omega arith, λ l. omega arith)
+kind-says (Output o a) = (omega arith, omega arith, omega arith, λ l. omega arith)
 
 -- what is read says of the bytes
 pub record Reads (bytes : List ℕ) (i : Instruction) : Type 0 where
@@ -59,30 +60,52 @@ decode-reads bytes i e =
       named = c3 .1 ∙ ap gives q;
     }
 
+pub reads-decode : (bytes : List ℕ) (i : Instruction) → Reads bytes i → decodeOf bytes ≡ gives i
+unfolding decodeOf sizedOf
+reads-decode bytes i r =
+    rw (
+      le-ltb (length bytes) 4 (omega (arith, r .room, kind-says i .0)),
+      r .long,
+      le-ltb (length bytes) (lengthOf i) (r .room),
+      r .named,
+      eq-eqb (lengthOf i) (lengthOf i) refl,
+    )
+
 -- ---- the table read both ways
--- what a kind and its operands say of the instruction that they name
-pub record Named (k a b d : ℕ) (i : Instruction) : Type 0 where
-  pub kind : k ≡ kindOf i
-  pub operands : operandsOf i ≡ take (length (operandsOf i)) (a ∷ b ∷ d ∷ [])
+-- n fields from byte k on
+abbrev fieldsOf : ℕ → ℕ → List ℕ → List ℕ
+fieldsOf zero k bytes = []
+fieldsOf (suc n) k bytes = fieldOf bytes k ∷ fieldsOf n (k + 2) bytes
+
+-- what kind and operands in some bytes say of the instruction that they name
+pub record Named (bytes : List ℕ) (i : Instruction) : Type 0 where
+  pub kind : fieldOf bytes 2 ≡ kindOf i
+  pub operands : operandsOf i ≡ fieldsOf (length (operandsOf i)) 4 bytes
 
 either-test : {P : Type 0} (t : Bool) (i j : Instruction) (o : Outcome Instruction) → (t ≡ true → j ≡ i → P) → (o ≡ gives i → P) →
     cond t (gives j) o ≡ gives i → P
 either-test true i j o yes-it no-not e = yes-it refl (gives-inj e)
 either-test false i j o yes-it no-not e = no-not e
 
-pub named : (k a b d : ℕ) (i : Instruction) → ofKind k a b d ≡ gives i → Named k a b d i
-named k a b d i =
-    either-test (eqb k 1) i (Ones a) _ (λ t q. rw (← q) (record { kind = eqb-true k 1 t; operands = refl }))
-    (either-test (eqb k 2) i (Zero a) _ (λ t q. rw (← q) (record { kind = eqb-true k 2 t; operands = refl }))
-    (either-test (eqb k 3) i (Input a b) _ (λ t q. rw (← q) (record { kind = eqb-true k 3 t; operands = refl }))
-    (either-test (eqb k 4) i (Not a b) _ (λ t q. rw (← q) (record { kind = eqb-true k 4 t; operands = refl }))
-    (either-test (eqb k 5) i (And a b d) _ (λ t q. rw (← q) (record { kind = eqb-true k 5 t; operands = refl }))
-    (either-test (eqb k 6) i (Or a b d) _ (λ t q. rw (← q) (record { kind = eqb-true k 6 t; operands = refl }))
-    (either-test (eqb k 7) i (Output a b) _ (λ t q. rw (← q) (record { kind = eqb-true k 7 t; operands = refl }))
-    (no-result 7 i)))))))
+pub named : (bytes : List ℕ) (i : Instruction) → Reads bytes i → Named bytes i
+named bytes i r =
+    tried 1 (Ones a) refl refl (tried 2 (Zero a) refl refl (tried 3 (Input a b) refl refl (tried 4 (Not a b) refl refl
+    (tried 5 (And a b d) refl refl (tried 6 (Or a b d) refl refl (tried 7 (Output a b) refl refl (no-result 7 i))))))) (r .named)
+  where
+    a : ℕ
+    a = fieldOf bytes 4
 
-pub named-kind : (k a b d : ℕ) (i : Instruction) → ofKind k a b d ≡ gives i → k ≡ kindOf i
-named-kind k a b d i e = named k a b d i e .kind
+    b : ℕ
+    b = fieldOf bytes 6
+
+    d : ℕ
+    d = fieldOf bytes 8
+
+    tried : (n : ℕ) (j : Instruction) {o : Outcome Instruction} → n ≡ kindOf j → operandsOf j ≡ fieldsOf (length (operandsOf j)) 4 bytes →
+        (o ≡ gives i → Named bytes i) → cond (eqb (fieldOf bytes 2) n) (gives j) o ≡ gives i → Named bytes i
+    tried n j {o} e q later =
+        either-test (eqb (fieldOf bytes 2) n) i j o
+        (λ t w. rw (← w) (record { kind = eqb-true (fieldOf bytes 2) n t ∙ e; operands = q })) later
 
 -- ---- a header
 -- what is read says of the bytes
@@ -113,23 +136,12 @@ header-reads file p e =
 field-back : (x : ℕ) → x % 256 + 256 * (x / 256) ≡ x
 field-back x = omega arith
 
-module _ (i : Instruction) (rest : List ℕ) where
-  abbrev ahead : List ℕ
-  ahead = instructionBytes i ++ rest
-
-  read-back : fieldOf ahead 0 ≡ lengthOf i → ofKind (fieldOf ahead 2) (fieldOf ahead 4) (fieldOf ahead 6) (fieldOf ahead 8) ≡ gives i →
-      decodeOf ahead ≡ gives i
-  unfolding decodeOf sizedOf
-  read-back l k =
-      let long : length ahead ≡ lengthOf i + length rest =
-      length-append (instructionBytes i) rest ∙ ap (λ (n : ℕ). n + length rest) (length-instruction i) in
-      rw (
-        le-ltb (length ahead) 4 (omega (arith, length-some i)),
-        l,
-        le-ltb (length ahead) (lengthOf i) (omega arith),
-        k,
-        eq-eqb (lengthOf i) (lengthOf i) refl,
-      )
+read-back : (i : Instruction) (rest : List ℕ) → let ahead = instructionBytes i ++ rest in fieldOf ahead 0 ≡ lengthOf i →
+    ofKind (fieldOf ahead 2) (fieldOf ahead 4) (fieldOf ahead 6) (fieldOf ahead 8) ≡ gives i → decodeOf ahead ≡ gives i
+read-back i rest l k =
+    let room : lengthOf i ≤ length (instructionBytes i ++ rest) =
+    omega (arith, length-append (instructionBytes i) rest, length-instruction i) in
+    reads-decode (instructionBytes i ++ rest) i (record { room = room; long = l; named = k })
 
 pub decode-written : (i : Instruction) (rest : List ℕ) → decodeOf (instructionBytes i ++ rest) ≡ gives i
 unfolding instructionBytes recordBytes fieldOf
@@ -149,23 +161,10 @@ unfolding headerBytes recordBytes numbersOf fieldOf
 numbers-written p rest = rw (field-back (p .registers), field-back (p .inputs), field-back (p .outputs), count-back (p .count))
 
 pub header-written : (p : Program) (rest : List ℕ) → within p ≡ true → headerOf (headerBytes p ++ rest) ≡ gives p
-unfolding headerBytes recordBytes fieldOf
-header-written p rest w =
-    let numbers = header-numbers (headerBytes p ++ rest) (omega arith) header-kind refl refl p (numbers-written p rest) in
-    sym (header-read (headerBytes p ++ rest) p numbers w header-length refl refl)
+unfolding headerBytes recordBytes fieldOf afterKind
+header-written p rest w = header-numbers (headerBytes p ++ rest) (omega arith) refl p (numbers-written p rest) ∙ rw w
 
 -- ---- bytes are written back as they are read
--- n fields from byte k on
-abbrev fieldsOf : ℕ → ℕ → List ℕ → List ℕ
-fieldsOf zero k bytes = []
-fieldsOf (suc n) k bytes = fieldOf bytes k ∷ fieldsOf n (k + 2) bytes
-
-low-back : (x y : ℕ) → x < 256 → (x + 256 * y) % 256 ≡ x
-low-back x y h = omega arith
-
-high-back : (x y : ℕ) → x < 256 → (x + 256 * y) / 256 ≡ y
-high-back x y h = omega arith
-
 two-ahead : (bytes : List ℕ) (k : ℕ) → k + 2 ≤ length bytes → drop k bytes ≡ getD bytes k 0 ∷ getD bytes (k + 1) 0 ∷ drop (k + 2) bytes
 two-ahead bytes k h =
     let next : k + 2 ≡ suc (k + 1) = omega arith in
@@ -182,29 +181,19 @@ module _ (bytes : List ℕ) (byte : (i : ℕ) → getD bytes i 0 < 256) where
       let at : k + 2 * suc n ≡ (k + 2) + 2 * n = omega arith in
       let x : ℕ = getD bytes k 0 in
       let y : ℕ = getD bytes (k + 1) 0 in
-      rw (low-back x y (byte k), high-back x y (byte k), at)
+      let low : (x + 256 * y) % 256 ≡ x = omega (arith, byte k) in
+      let high : (x + 256 * y) / 256 ≡ y = omega (arith, byte k) in
+      rw (low, high, at)
       (two-ahead bytes k (omega arith) ∙ ap (λ (l : List ℕ). x ∷ y ∷ l) (record-back n (k + 2) (omega arith)))
-
--- the fields of an instruction that is read
-fields-named : (bytes : List ℕ) (i : Instruction) → fieldOf bytes 0 ≡ lengthOf i →
-    Named (fieldOf bytes 2) (fieldOf bytes 4) (fieldOf bytes 6) (fieldOf bytes 8) i →
-    fieldsOf (2 + length (operandsOf i)) 0 bytes ≡ lengthOf i ∷ kindOf i ∷ operandsOf i
-fields-named bytes (Ones to) l n = rw (l, n .kind, n .operands)
-fields-named bytes (Zero to) l n = rw (l, n .kind, n .operands)
-fields-named bytes (Input to n) l m = rw (l, m .kind, m .operands)
-fields-named bytes (Not to a) l n = rw (l, n .kind, n .operands)
-fields-named bytes (And to a b) l n = rw (l, n .kind, n .operands)
-fields-named bytes (Or to a b) l n = rw (l, n .kind, n .operands)
-fields-named bytes (Output to a) l n = rw (l, n .kind, n .operands)
 
 pub instruction-back : (bytes : List ℕ) (i : Instruction) → ((k : ℕ) → getD bytes k 0 < 256) → decodeOf bytes ≡ gives i →
     bytes ≡ instructionBytes i ++ drop (lengthOf i) bytes
 unfolding instructionBytes
 instruction-back bytes i byte e =
     let r = decode-reads bytes i e in
-    let n : ℕ = 2 + length (operandsOf i) in
-    let fields : fieldsOf n 0 bytes ≡ lengthOf i ∷ kindOf i ∷ operandsOf i =
-    fields-named bytes i (r .long) (named (fieldOf bytes 2) (fieldOf bytes 4) (fieldOf bytes 6) (fieldOf bytes 8) i (r .named)) in
+    let n : ℕ = suc (suc (length (operandsOf i))) in
+    let m = named bytes i r in
+    let fields : fieldsOf n 0 bytes ≡ lengthOf i ∷ kindOf i ∷ operandsOf i = rw (r .long, m .kind, ← m .operands) in
     let at : 0 + 2 * n ≡ lengthOf i = omega (arith, length-fields i) in
     rw (fields, at) at (record-back bytes byte n 0 (omega (arith, r .room)))
 
@@ -213,16 +202,10 @@ pub header-back : (file : List ℕ) (p : Program) → ((k : ℕ) → getD file k
 unfolding headerBytes numbersOf
 header-back file p byte e =
     let h = header-reads file p e in
-    rw (← h .numbers, count-low, count-high, ← h .kind, ← h .long) (record-back file byte 7 0 (h .room))
-  where
-    small : fieldOf file 10 < 65536
-    small = field-small file 10 (byte 10) (byte 11)
-
-    count-low : (fieldOf file 10 + 65536 * fieldOf file 12) % 65536 ≡ fieldOf file 10
-    count-low = omega (arith, small)
-
-    count-high : (fieldOf file 10 + 65536 * fieldOf file 12) / 65536 ≡ fieldOf file 12
-    count-high = omega (arith, small)
+    let small = field-small file 10 (byte 10) (byte 11) in
+    let low : (fieldOf file 10 + 65536 * fieldOf file 12) % 65536 ≡ fieldOf file 10 = omega (arith, small) in
+    let high : (fieldOf file 10 + 65536 * fieldOf file 12) / 65536 ≡ fieldOf file 12 = omega (arith, small) in
+    rw (← h .numbers, low, high, ← h .kind, ← h .long) (record-back file byte 7 0 (h .room))
 
 -- ---- what the contracts of encode, decode, write_header and read_header cite
 -- the front of a file
@@ -252,7 +235,7 @@ module _ (file : List ℕ) (at : ℕ) (i : Instruction) (byte : (k : ℕ) → ge
 
   fits : at + lengthOf i ≤ length file
   unfolding decodeAt
-  fits = omega (arith, decode-reads (drop at file) i e .room, length-drop at file, length-some i)
+  fits = omega (arith, decode-reads (drop at file) i e .room, length-drop at file, kind-says i .0)
 
   pub decode-then-encode : encodeOf i at (length file) ≡ gives (take (lengthOf i) (drop at file))
   decode-then-encode =

@@ -4,7 +4,7 @@ use mathlib.Core.Path.{_≡_, refl, sym, ap, _∙_}
 use mathlib.Core.Bool.{true, false, not}
 use mathlib.Core.List.{List, [], _∷_}
 use native.Mathlib.Omega.{arith}
-use borrow.Author.Tests.{lt-ltb, le-ltb, ltb-false, le-leb, leb-true, eq-eqb, ne-eqb, not-true}
+use borrow.Author.Tests.{lt-ltb, le-ltb, ltb-false, le-leb, leb-true, eq-eqb, not-true}
 use lib.Dec.{eqb, ltb}
 use lib.ListN.{length, take, drop, length-drop}
 use Rattle.laws.specs.Tests.{both, neither}
@@ -67,13 +67,9 @@ limits-hold p w =
     )
 
 -- ---- an instruction
-pub decode-short : (bytes : List ℕ) → length bytes < 4 → refused 1 ≡ decodeOf bytes
-unfolding decodeOf
-decode-short bytes h = rw (lt-ltb (length bytes) 4 h)
-
 pub decode-beyond : (file : List ℕ) (at : ℕ) → length file < at → refused 1 ≡ decodeAt file at
-unfolding decodeAt
-decode-beyond file at h = decode-short (drop at file) (rw (length-drop at file) (omega arith))
+unfolding decodeAt decodeOf
+decode-beyond file at h = rw (length-drop at file, lt-ltb (length file - at) 4 (omega arith))
 
 -- the rest of the file, as the code takes it
 pub decode-part : (file : List ℕ) (at : ℕ) (o : Outcome Instruction) →
@@ -81,25 +77,12 @@ pub decode-part : (file : List ℕ) (at : ℕ) (o : Outcome Instruction) →
 unfolding decodeAt
 decode-part file at o e = e ∙ ap decodeOf (rest-is at file)
 
-module _ (bytes : List ℕ) (len : ℕ) (is-len : len ≡ fieldOf bytes 0) (h : 4 ≤ length bytes) where
-  pub decode-cut : length bytes < len → refused 1 ≡ decodeOf bytes
-  unfolding decodeOf
-  decode-cut l = rw (le-ltb (length bytes) 4 h, lt-ltb (length bytes) (fieldOf bytes 0) (omega arith))
-
-  module _ (l : len ≤ length bytes) (kind to a b : ℕ) (is-to : to ≡ fieldOf bytes 4) (is-a : a ≡ fieldOf bytes 6)
-      (is-b : b ≡ fieldOf bytes 8) (is-kind : kind ≡ fieldOf bytes 2) where
-    pub decode-kind : decodeOf bytes ≡ (ofKind kind to a b >>= sizedOf len)
-    unfolding decodeOf
-    decode-kind =
-        rw (le-ltb (length bytes) 4 h, le-ltb (length bytes) (fieldOf bytes 0) (omega arith), is-len, is-to, is-a, is-b, is-kind)
-
-    pub decode-as : (i : Instruction) (o : Outcome Instruction) → ofKind kind to a b ≡ gives i → o ≡ sizedOf len i → o ≡ decodeOf bytes
-    decode-as i o e q = q ∙ sym (decode-kind ∙ rw e)
-
-pub no-kind : (k a b d : ℕ) → (k ≡ 1 → ⊥) → (k ≡ 2 → ⊥) → (k ≡ 3 → ⊥) → (k ≡ 4 → ⊥) → (k ≡ 5 → ⊥) → (k ≡ 6 → ⊥) → (k ≡ 7 → ⊥) →
-    ofKind k a b d ≡ refused 7
-no-kind k a b d n1 n2 n3 n4 n5 n6 n7 =
-    rw (ne-eqb k 1 n1, ne-eqb k 2 n2, ne-eqb k 3 n3, ne-eqb k 4 n4, ne-eqb k 5 n5, ne-eqb k 6 n6, ne-eqb k 7 n7)
+pub decode-kind : (bytes : List ℕ) (len : ℕ) → len ≡ fieldOf bytes 0 → 4 ≤ length bytes → len ≤ length bytes → (kind to a b : ℕ) →
+    to ≡ fieldOf bytes 4 → a ≡ fieldOf bytes 6 → b ≡ fieldOf bytes 8 → kind ≡ fieldOf bytes 2 →
+    decodeOf bytes ≡ (ofKind kind to a b >>= sizedOf len)
+unfolding decodeOf
+decode-kind bytes len is-len h l kind to a b is-to is-a is-b is-kind =
+    rw (le-ltb (length bytes) 4 h, ← is-len, le-ltb (length bytes) len l, is-to, is-a, is-b, is-kind)
 
 -- ---- writing an instruction
 pub length-fields : (i : Instruction) → lengthOf i ≡ 2 * (2 + length (operandsOf i))
@@ -135,15 +118,6 @@ module _ (i : Instruction) (at : ℕ) (buf : List ℕ) where
   encode-room long now q h e = rw (encode-gives i at (length buf) h) (ap gives (q ∙ sym (length-instruction i)), e)
 
 -- ---- a header
-pub numbers-are : (file : List ℕ) (r i o lo hi : ℕ) → r ≡ fieldOf file 4 → i ≡ fieldOf file 6 → o ≡ fieldOf file 8 → lo ≡ fieldOf file 10 →
-    hi ≡ fieldOf file 12 → record { registers = r; inputs = i; outputs = o; count = lo + 65536 * hi } ≡ numbersOf file
-unfolding numbersOf
-numbers-are file r i o lo hi e1 e2 e3 e4 e5 = rw (e1, e2, e3, e4, e5)
-
-pub header-short : (file : List ℕ) → length file < header-length → refused 1 ≡ headerOf file
-unfolding headerOf
-header-short file h = rw (lt-ltb (length file) header-length h)
-
 -- what is left to check of a file that is long enough and of the kind, where its numbers are p
 unfoldable pub afterKind : List ℕ → Program → Outcome Program
 afterKind file p = do
@@ -151,28 +125,10 @@ afterKind file p = do
   refuse 4 (not (eqb (fieldOf file 0) header-length))
   gives p
 
-module _ (file : List ℕ) (h : header-length ≤ length file) (kind : ℕ) (is-kind : kind ≡ fieldOf file 2) where
-  pub header-other : (kind ≡ header-kind → ⊥) → refused 2 ≡ headerOf file
-  unfolding headerOf
-  header-other k = rw (le-ltb (length file) header-length h, ne-eqb (fieldOf file 2) header-kind (λ e. k (is-kind ∙ e)))
-
-  pub header-numbers : kind ≡ header-kind → (p : Program) → p ≡ numbersOf file → headerOf file ≡ afterKind file p
-  unfolding headerOf afterKind
-  header-numbers k p is-p = rw (le-ltb (length file) header-length h, eq-eqb (fieldOf file 2) header-kind (sym is-kind ∙ k), is-p)
-
-module _ (file : List ℕ) (p : Program) (e : headerOf file ≡ afterKind file p) where
-  pub header-outside : within p ≡ false → refused 3 ≡ headerOf file
-  unfolding afterKind
-  header-outside w = sym (e ∙ rw w)
-
-  module _ (w : within p ≡ true) (len : ℕ) (is-len : len ≡ fieldOf file 0) where
-    pub header-length-wrong : (len ≡ header-length → ⊥) → refused 4 ≡ headerOf file
-    unfolding afterKind
-    header-length-wrong n = sym (e ∙ rw (w, ne-eqb (fieldOf file 0) header-length (λ q. n (is-len ∙ q))))
-
-    pub header-read : len ≡ header-length → gives p ≡ headerOf file
-    unfolding afterKind
-    header-read q = sym (e ∙ rw (w, eq-eqb (fieldOf file 0) header-length (sym is-len ∙ q)))
+pub header-numbers : (file : List ℕ) → header-length ≤ length file → fieldOf file 2 ≡ header-kind → (p : Program) → p ≡ numbersOf file →
+    headerOf file ≡ afterKind file p
+unfolding headerOf afterKind
+header-numbers file h k p is-p = rw (le-ltb (length file) header-length h, eq-eqb (fieldOf file 2) header-kind k, is-p)
 
 -- ---- writing a header
 module _ (p : Program) (room : ℕ) where

@@ -14,18 +14,6 @@ low c = (c .shared-slice-known .given (c .before .args .at)) .fits
 high : (c : tie.After-shared-slice-known2) → getD (c .before .before .args .file .now) (c .before .before .args .at + 1) 0 < 256
 high c = (c .shared-slice-known2 .given (c .before .before .args .at + 1)) .fits
 
-cast-result : tie.Need-cast-result
-cast-result c = omega (arith, low c)
-
-cast-result-2 : tie.Need-cast-result-2
-cast-result-2 c = omega (arith, high c)
-
-mul-result : tie.Need-mul-result
-mul-result c = omega (arith, high c)
-
-add-result-2 : tie.Need-add-result-2
-add-result-2 c = omega (arith, low (c .before), high c)
-
 returns : tie.Need-returns
 unfolding fieldOf
 returns c = (omega arith, omega (arith, low (c .before), high c))
@@ -34,7 +22,7 @@ pub field-at-spec : {M : Type 1} → statement M
 field-at-spec =
     tie.close
     (tie.spec
-    (λ c. search needs) cast-result
+    (λ c. search needs) (λ c. omega (arith, low c))
     (λ c. search needs) (λ c. search needs)
-    cast-result-2 mul-result
-    add-result-2 returns)
+    (λ c. omega (arith, high c)) (λ c. omega (arith, high c))
+    (λ c. omega (arith, low (c .before), high c)) returns)

@@ -1,11 +1,10 @@
 -- `checker::any_unset` meets its contract: the outputs passed are set. Assumes nothing.
 use borrow.Author.Needs.{needs}
 use Prim.Native.Nat.{_-_, _≤_}
-use mathlib.Core.Path.{_≡_}
+use mathlib.Core.Path.{_≡_, sym}
 use mathlib.Core.Bool.{not, false}
-use Rattle.laws.specs.Sums.{any, any-none, any-done}
+use Rattle.laws.specs.Sums.{any, any-none, any-more, any-found, any-done}
 use Rattle.checker.specs.Operands.{flagged}
-use Rattle.checker.specs.Checking.{missing-found, missing-more}
 use Rattle.checker.proofs.checking.any_unset.Statement.{statement}
 use Rattle.checker.proofs.checking.any_unset.Tie as tie
 
@@ -19,12 +18,10 @@ loop-holds : tie.Need-loop-holds Inv-loop μ-loop
 loop-holds c = (search needs, any-none _)
 
 returns : tie.Need-returns Inv-loop μ-loop
-returns c = missing-found _ _ _ (c .before .before .loop-test .taken) (c .if1 .taken)
+returns c = sym (any-found _ _ _ (c .before .before .loop-test .taken) (c .if1 .taken))
 
 loop-again : tie.Need-loop-again Inv-loop μ-loop
-loop-again c =
-    let loop = c .before .before .before .loop in
-    (search needs, missing-more _ _ (c .if1 .left) (loop .inv .1))
+loop-again c = (search needs, any-more _ _ (c .if1 .left) (c .before .before .before .loop .inv .1))
 
 returns-2 : tie.Need-returns-2 Inv-loop μ-loop
 returns-2 c = any-done _ _ _ (c .before .loop .inv .0) (c .loop-test .left) (c .before .loop .inv .1)

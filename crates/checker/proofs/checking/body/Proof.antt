@@ -9,10 +9,9 @@ use Rattle.programs.specs.Limits.{most-registers, most-inputs, most-outputs}
 use Rattle.programs.specs.Reading.{within-means}
 use Rattle.checker.specs.Checks.{instructionOf}
 use Rattle.checker.specs.Standing.{InRange}
-use Rattle.checker.specs.Operands.{flagged}
-use Rattle.checker.specs.Checking.{Checking, checking-none, checking-refused, checking-left, checking-unset, checking-done}
-use Rattle.checker.specs.Operands.{admit-room, admit-limits}
-use Rattle.checker.specs.Checking.{turn-ready, turn-done}
+use Rattle.checker.specs.Operands.{flagged, admit-room, admit-limits}
+use Rattle.checker.specs.Checking.{Checking, checking-none, checking-refused, turn-ready, turn-done}
+use Rattle.checker.specs.Checking.{checking-left, checking-unset, checking-done}
 use Rattle.checker.proofs.checking.body.Statement.{statement}
 use Rattle.checker.proofs.checking.body.Tie as tie
 
@@ -77,7 +76,7 @@ gate-runs-requires : tie.Need-gate-runs-requires Inv-loop μ-loop
 gate-runs-requires c κs =
     let done = c .before in
     let i = picked done in
-    turn-ready _ _ _ _ _ _ (head i .loop .inv) _ (admitted i) (some-left i) _ (done .length .ensures) _ _
+    turn-ready _ _ _ _ _ _ (head i .loop .inv) (some-left i) _ (admitted i) _ (done .length .ensures) _ _
     (done .before .before .before .mark-register .ensures) (done .before .mark-output .ensures) (start (head i) .pre .0)
 
 loop-less : tie.Need-loop-less Inv-loop μ-loop
@@ -89,7 +88,7 @@ loop-again : tie.Need-loop-again Inv-loop μ-loop
 loop-again c =
     let done = c .before .before in
     let i = picked done in
-    turn-done _ _ _ _ _ _ (head i .loop .inv) _ (admitted i) (some-left i) _ (done .length .ensures) _ _
+    turn-done _ _ _ _ _ _ (head i .loop .inv) (some-left i) _ (admitted i) _ (done .length .ensures) _ _
     (done .before .before .before .mark-register .ensures) (done .before .mark-output .ensures) _ _ _ (c .gate-runs .ensures)
 
 returns-2 : tie.Need-returns-2 Inv-loop μ-loop

@@ -1,11 +1,15 @@
 -- `checker::check` meets its contract: header first, then the body. Assumes nothing.
 use borrow.Author.Needs.{needs}
-use Rattle.checker.specs.Checking.{check-refused, check-ready, check-body}
+use mathlib.Core.Path.{sym}
+use Rattle.programs.specs.Inverse.{header-reads}
+use Rattle.checker.specs.Checking.{check-refused, check-body}
 use Rattle.checker.proofs.checking.check.Statement.{statement}
 use Rattle.checker.proofs.checking.check.Tie as tie
 
 body-requires : tie.Need-body-requires
-body-requires c κs = check-ready _ _ (rw (c .before .p .given .1) at (c .before .before .before .read-header .ensures))
+body-requires c κs =
+    let r = header-reads _ _ (sym (rw (c .before .p .given .1) at (c .before .before .before .read-header .ensures))) in
+    (r .inside, r .room)
 
 returns : tie.Need-returns
 returns c = check-refused _ _ (rw (c .before .why .given .1) at (c .before .before .before .read-header .ensures))

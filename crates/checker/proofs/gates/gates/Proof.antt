@@ -34,27 +34,15 @@ left c =
 loop-holds : tie.Need-loop-holds Inv-loop μ-loop
 loop-holds c = (passes-none _ _ _ _ _ _ (omega arith) (c .before .before .pre .inside), search needs, search needs)
 
-wide-at-requires : tie.Need-wide-at-requires Inv-loop μ-loop
-wide-at-requires c κs = omega (arith, left c .1)
-
 sound-gate-requires : tie.Need-sound-gate-requires Inv-loop μ-loop
 sound-gate-requires c κs =
     let turn = c .before .before .before in
     (left turn .1, start turn .pre .few)
 
-add-field-at : tie.Need-add-field-at Inv-loop μ-loop
-add-field-at c = omega (arith, left (turn c) .1)
-
-field-at-requires : tie.Need-field-at-requires Inv-loop μ-loop
-field-at-requires c κs = omega (arith, left (turn c) .1)
-
 element-write-written : tie.Need-element-write-written Inv-loop μ-loop
 element-write-written c =
     let s = c .before .before .sound-gate .ensures (c .before .if2 .taken) in
     omega (arith, s .into, start (turn (c .before)) .pre .few, c .field-at .ensures .0)
-
-add-at : tie.Need-add-at Inv-loop μ-loop
-add-at c = omega (arith, left (turn (c .before)) .1)
 
 loop-again : tie.Need-loop-again Inv-loop μ-loop
 loop-again c =
@@ -68,12 +56,6 @@ loop-again c =
       search needs,
     )
 
-sub-t12 : tie.Need-sub-t12 Inv-loop μ-loop
-sub-t12 c = omega (arith, c .before .before .lesser .ensures, c .before .loop .inv .2)
-
-returns : tie.Need-returns Inv-loop μ-loop
-returns c = c .before .loop .inv .0
-
 pub gates-spec : {M : Type 1} → statement M
 gates-spec =
     tie.close
@@ -81,6 +63,7 @@ gates-spec =
     Inv-loop μ-loop
     (λ c. search needs) (λ c. search needs) (λ c. search needs) (λ c κs. search needs)
     loop-holds
-    wide-at-requires sound-gate-requires add-field-at field-at-requires element-write-written
-    add-at (λ c. search needs) (λ c. search needs) loop-again
-    sub-t12 returns)
+    (λ c κs. omega (arith, left c .1)) sound-gate-requires
+    (λ c. omega (arith, left (turn c) .1)) (λ c κs. omega (arith, left (turn c) .1)) element-write-written
+    (λ c. omega (arith, left (turn (c .before)) .1)) (λ c. search needs) (λ c. search needs) loop-again
+    (λ c. omega (arith, c .before .before .lesser .ensures, c .before .loop .inv .2)) (λ c. c .before .loop .inv .0))

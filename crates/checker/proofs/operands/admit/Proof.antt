@@ -5,8 +5,8 @@ use mathlib.Core.Path.{_≡_, sym, _∙_}
 use mathlib.Core.Bool.{true}
 use Rattle.laws.specs.Outcome.{gives}
 use Rattle.programs.specs.Instructions.{decodeAt}
-use Rattle.checker.specs.Checks.{inRange}
-use Rattle.checker.specs.Operands.{range-limits, admit-refused, admit-operand, admit-unwritten, admit-gives}
+use Rattle.checker.specs.Checks.{inRange, instructionOf}
+use Rattle.checker.specs.Operands.{range-limits, admit-gives}
 use Rattle.checker.proofs.operands.admit.Statement.{statement}
 use Rattle.checker.proofs.operands.admit.Tie as tie
 
@@ -25,7 +25,8 @@ ranged : (c : tie.Else1) → inRange (start (picked (c .before)) .args .p) (pick
 ranged c = sym (c .before .in-range .ensures) ∙ not-false _ (c .if1 .left)
 
 returns : tie.Need-returns
-returns c = admit-operand _ _ _ _ _ (there (picked (c .before))) (sym (c .before .in-range .ensures) ∙ not-true _ (c .if1 .taken))
+unfolding instructionOf decodeAt
+returns c = rw (← there (picked (c .before)), sym (c .before .in-range .ensures) ∙ not-true _ (c .if1 .taken))
 
 readable-requires : tie.Need-readable-requires
 readable-requires c κs =
@@ -33,13 +34,14 @@ readable-requires c κs =
     range-limits (start i .args .p) (i .i .given .0 .0) (start i .pre) (ranged c) .1
 
 returns-2 : tie.Need-returns-2
+unfolding instructionOf decodeAt
 returns-2 c =
     let passed = c .before .before in
-    admit-unwritten _ _ _ _ _ (there (picked (passed .before))) (ranged passed)
-    (sym (c .before .readable .ensures) ∙ not-true _ (c .if2 .taken))
+    rw (← there (picked (passed .before)), ranged passed, sym (c .before .readable .ensures) ∙ not-true _ (c .if2 .taken))
 
 returns-3 : tie.Need-returns-3
-returns-3 c = admit-refused _ _ _ _ _ (rw (c .before .why .given .1) at (c .before .before .before .decode .ensures))
+unfolding instructionOf decodeAt
+returns-3 c = rw (← (rw (c .before .why .given .1) at (c .before .before .before .decode .ensures)))
 
 returns-4 : tie.Need-returns-4
 returns-4 c =

@@ -2,18 +2,19 @@
 use borrow.Author.Needs.{needs}
 use mathlib.Core.Path.{_≡_, sym, _∙_}
 use Prim.Native.Nat.{_+_, _*_}
-use borrow.Author.Tests.{not-true, not-false}
-use Rattle.programs.specs.Header.{headerOf}
-use Rattle.programs.specs.Reading.{afterKind, header-short, header-other, numbers-are, header-numbers}
-use Rattle.programs.specs.Reading.{header-outside, header-length-wrong, header-read}
+use borrow.Author.Tests.{lt-ltb, le-ltb, eq-eqb, ne-eqb, not-true, not-false}
+use Rattle.programs.specs.Header.{headerOf, numbersOf}
+use Rattle.programs.specs.Reading.{afterKind, header-numbers}
 use Rattle.programs.proofs.headers.read_header.Statement.{statement}
 use Rattle.programs.proofs.headers.read_header.Tie as tie
 
 returns : tie.Need-returns
-returns c = header-short _ (c .if1 .taken)
+unfolding headerOf
+returns c = rw (lt-ltb _ _ (c .if1 .taken))
 
 returns-2 : tie.Need-returns-2
-returns-2 c = header-other _ (c .before .before .if1 .left) _ (c .before .field .ensures .0) (c .if2 .taken)
+unfolding headerOf
+returns-2 c = rw (le-ltb _ _ (c .before .before .if1 .left), ← (c .before .field .ensures .0), ne-eqb _ _ (c .if2 .taken))
 
 -- what the fields say
 numbered : (c : tie.After-within) →
@@ -25,6 +26,7 @@ numbered : (c : tie.After-within) →
       outputs = fields .before .before .field4 .result;
       count = fields .before .field5 .result + 65536 * fields .field6 .result;
     })
+unfolding numbersOf
 numbered c =
     let high = c .before in
     let low = high .before in
@@ -32,24 +34,32 @@ numbered c =
     let i = o .before in
     let r = i .before in
     let kind = r .before .before in
-    header-numbers _ (kind .before .if1 .left) _ (kind .field .ensures .0) (r .before .if2 .left) _
-    (numbers-are _ _ _ _ _ _ (r .field2 .ensures .0) (i .field3 .ensures .0) (o .field4 .ensures .0) (low .field5 .ensures .0)
-    (high .field6 .ensures .0))
+    header-numbers _ (kind .before .if1 .left) (sym (kind .field .ensures .0) ∙ r .before .if2 .left) _
+    (rw (r .field2 .ensures .0, i .field3 .ensures .0, o .field4 .ensures .0, low .field5 .ensures .0, high .field6 .ensures .0))
 
 returns-3 : tie.Need-returns-3
-returns-3 c = header-outside _ _ (numbered (c .before)) (sym (c .before .within .ensures) ∙ not-true _ (c .if3 .taken))
+unfolding afterKind
+returns-3 c = sym (numbered (c .before) ∙ rw (sym (c .before .within .ensures) ∙ not-true _ (c .if3 .taken)))
 
 returns-4 : tie.Need-returns-4
+unfolding afterKind
 returns-4 c =
     let inside = c .before .before in
-    header-length-wrong _ _ (numbered (inside .before)) (sym (inside .before .within .ensures) ∙ not-false _ (inside .if3 .left)) _
-    (c .before .field7 .ensures .0) (c .if4 .taken)
+    sym (numbered (inside .before) ∙ rw (
+      sym (inside .before .within .ensures) ∙ not-false _ (inside .if3 .left),
+      ← (c .before .field7 .ensures .0),
+      ne-eqb _ _ (c .if4 .taken),
+    ))
 
 returns-5 : tie.Need-returns-5
+unfolding afterKind
 returns-5 c =
     let inside = c .before .before in
-    header-read _ _ (numbered (inside .before)) (sym (inside .before .within .ensures) ∙ not-false _ (inside .if3 .left)) _
-    (c .before .field7 .ensures .0) (c .if4 .left)
+    sym (numbered (inside .before) ∙ rw (
+      sym (inside .before .within .ensures) ∙ not-false _ (inside .if3 .left),
+      ← (c .before .field7 .ensures .0),
+      eq-eqb _ _ (c .if4 .left),
+    ))
 
 pub read-header-spec : {M : Type 1} → statement M
 read-header-spec =

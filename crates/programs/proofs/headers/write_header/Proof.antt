@@ -10,9 +10,6 @@ use Rattle.laws.specs.Outcome.{ends-refused, ends-given}
 use Rattle.programs.proofs.headers.write_header.Statement.{statement}
 use Rattle.programs.proofs.headers.write_header.Tie as tie
 
-within-requires : tie.Need-within-requires
-within-requires c κs = search needs
-
 -- past the first check
 inside : (c : tie.Else1) → within (c .before .before .before .args .p) ≡ true
 inside c = sym (c .before .within .ensures) ∙ not-false _ (c .if1 .left)
@@ -26,9 +23,6 @@ returns-2 c = ends-refused _ _ _ _ _ (write-header-short _ _ (inside (c .before)
 store-header-requires : tie.Need-store-header-requires
 store-header-requires c κs = (inside (c .before .before), search needs)
 
-same-length : tie.Need-same-length
-same-length c = search needs
-
 returns-3 : tie.Need-returns-3
 returns-3 c =
     let stored = c .before .before in
@@ -39,4 +33,4 @@ returns-3 c =
 pub write-header-spec : {M : Type 1} → statement M
 write-header-spec =
     tie.close
-    (tie.spec within-requires returns returns-2 store-header-requires same-length returns-3)
+    (tie.spec (λ c κs. search needs) returns returns-2 store-header-requires (λ c. search needs) returns-3)

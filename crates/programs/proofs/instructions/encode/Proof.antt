@@ -5,23 +5,11 @@ use native.Mathlib.Omega.{arith}
 use Rattle.programs.proofs.instructions.encode.Statement.{statement}
 use Rattle.programs.proofs.instructions.encode.Tie as tie
 
-length-requires : tie.Need-length-requires
-length-requires c κs = search needs
-
 returns : tie.Need-returns
 returns c = encode-no-room _ _ _ (omega arith)
 
-sub-if2 : tie.Need-sub-if2
-sub-if2 c = search needs
-
 returns-2 : tie.Need-returns-2
 returns-2 c = encode-no-room _ _ _ (omega arith)
-
-store-requires : tie.Need-store-requires
-store-requires c κs = search needs
-
-same-length : tie.Need-same-length
-same-length c = search needs
 
 returns-3 : tie.Need-returns-3
 returns-3 c = encode-room _ _ _ _ _ (search needs) (omega arith) (c .before .before .store .ensures)
@@ -29,4 +17,4 @@ returns-3 c = encode-room _ _ _ _ _ (search needs) (omega arith) (c .before .bef
 pub encode-spec : {M : Type 1} → statement M
 encode-spec =
     tie.close
-    (tie.spec length-requires returns sub-if2 returns-2 store-requires same-length returns-3)
+    (tie.spec (λ c κs. search needs) returns (λ c. search needs) returns-2 (λ c κs. search needs) (λ c. search needs) returns-3)

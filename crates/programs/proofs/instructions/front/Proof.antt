@@ -1,19 +1,22 @@
 -- `programs::front` meets its contract: each way through the tests is one of the definition. Assumes nothing.
 use borrow.Author.Needs.{needs}
+use borrow.Author.Tests.{lt-ltb, le-ltb, ne-eqb}
 use mathlib.Core.Path.{_≡_, sym, _∙_}
 use Prim.Native.Nat.{ℕ}
-use Rattle.laws.specs.Outcome.{Outcome, refused, gives, _>>=_}
+use Rattle.laws.specs.Outcome.{Outcome, gives, _>>=_}
 use Rattle.programs.specs.declared.description.Instruction.{Instruction}
 use Rattle.programs.specs.Instructions.{ofKind, sizedOf, decodeOf}
-use Rattle.programs.specs.Reading.{decode-short, decode-cut, decode-kind, no-kind}
+use Rattle.programs.specs.Reading.{decode-kind}
 use Rattle.programs.proofs.instructions.front.Statement.{statement}
 use Rattle.programs.proofs.instructions.front.Tie as tie
 
 returns : tie.Need-returns
-returns c = decode-short _ (c .if1 .taken)
+unfolding decodeOf
+returns c = rw (lt-ltb _ _ (c .if1 .taken))
 
 returns-2 : tie.Need-returns-2
-returns-2 c = decode-cut _ _ (c .before .field .ensures .0) (c .before .before .if1 .left) (c .if2 .taken)
+unfolding decodeOf
+returns-2 c = rw (le-ltb _ _ (c .before .before .if1 .left), ← (c .before .field .ensures .0), lt-ltb _ _ (c .if2 .taken))
 
 -- the fields as they are read, and what they say
 module _ (c : tie.After-field5) where
@@ -43,43 +46,30 @@ module _ (c : tie.After-field5) where
   known : (i : Instruction) (o : Outcome Instruction) → named ≡ gives i → o ≡ sizedOf length i → o ≡ whole
   known i o e q = q ∙ sym (by-kind ∙ rw e)
 
-  unknown : named ≡ refused 7 → refused 7 ≡ whole
-  unknown e = sym (by-kind ∙ rw e)
-
-returns-3 : tie.Need-returns-3
-returns-3 c = known (c .before .before) _ _ (rw (c .before .match .keys1)) (c .sized .ensures)
-
-returns-4 : tie.Need-returns-4
-returns-4 c = known (c .before .before) _ _ (rw (c .before .match .keys2)) (c .sized2 .ensures)
-
-returns-5 : tie.Need-returns-5
-returns-5 c = known (c .before .before) _ _ (rw (c .before .match .keys3)) (c .sized3 .ensures)
-
-returns-6 : tie.Need-returns-6
-returns-6 c = known (c .before .before) _ _ (rw (c .before .match .keys4)) (c .sized4 .ensures)
-
-returns-7 : tie.Need-returns-7
-returns-7 c = known (c .before .before) _ _ (rw (c .before .match .keys5)) (c .sized5 .ensures)
-
-returns-8 : tie.Need-returns-8
-returns-8 c = known (c .before .before) _ _ (rw (c .before .match .keys6)) (c .sized6 .ensures)
-
-returns-9 : tie.Need-returns-9
-returns-9 c = known (c .before .before) _ _ (rw (c .before .match .keys7)) (c .sized7 .ensures)
-
 returns-10 : tie.Need-returns-10
 returns-10 c =
     let n = c .match .rest in
-    let b = c .before .before in
-    let a = b .before in
-    let to = a .before in
-    unknown (c .before) (no-kind (c .before .field5 .result) (to .field2 .result) (a .field3 .result) (b .field4 .result)
-    (n .0 .0 .0 .0 .0 .0 .1) (n .0 .0 .0 .0 .0 .1) (n .0 .0 .0 .0 .1) (n .0 .0 .0 .1) (n .0 .0 .1) (n .0 .1) (n .1))
+    sym (by-kind (c .before) ∙ rw (
+      ne-eqb _ 1 (n .0 .0 .0 .0 .0 .0 .1),
+      ne-eqb _ 2 (n .0 .0 .0 .0 .0 .1),
+      ne-eqb _ 3 (n .0 .0 .0 .0 .1),
+      ne-eqb _ 4 (n .0 .0 .0 .1),
+      ne-eqb _ 5 (n .0 .0 .1),
+      ne-eqb _ 6 (n .0 .1),
+      ne-eqb _ 7 (n .1),
+    ))
 
 pub front-spec : {M : Type 1} → statement M
 front-spec =
     tie.close
     (tie.spec returns (λ c κs. search needs) returns-2 (λ c κs. search needs) (λ c. search needs) (λ c κs. search needs)
     (λ c. search needs) (λ c κs. search needs) (λ c. search needs) (λ c κs. search needs) (λ c κs. search needs) (λ c κs. search needs)
-    (λ c κs. search needs) (λ c κs. search needs) (λ c κs. search needs) (λ c κs. search needs) (λ c κs. search needs) returns-3
-    returns-4 returns-5 returns-6 returns-7 returns-8 returns-9 returns-10)
+    (λ c κs. search needs) (λ c κs. search needs) (λ c κs. search needs) (λ c κs. search needs) (λ c κs. search needs)
+    (λ c. known (c .before .before) _ _ (rw (c .before .match .keys1)) (c .sized .ensures))
+    (λ c. known (c .before .before) _ _ (rw (c .before .match .keys2)) (c .sized2 .ensures))
+    (λ c. known (c .before .before) _ _ (rw (c .before .match .keys3)) (c .sized3 .ensures))
+    (λ c. known (c .before .before) _ _ (rw (c .before .match .keys4)) (c .sized4 .ensures))
+    (λ c. known (c .before .before) _ _ (rw (c .before .match .keys5)) (c .sized5 .ensures))
+    (λ c. known (c .before .before) _ _ (rw (c .before .match .keys6)) (c .sized6 .ensures))
+    (λ c. known (c .before .before) _ _ (rw (c .before .match .keys7)) (c .sized7 .ensures))
+    returns-10)

@@ -6,16 +6,9 @@ use Rattle.programs.specs.Instructions.{sizedOf}
 use Rattle.programs.proofs.instructions.sized.Statement.{statement}
 use Rattle.programs.proofs.instructions.sized.Tie as tie
 
-length-requires : tie.Need-length-requires
-length-requires c κs = search needs
-
-returns : tie.Need-returns
-unfolding sizedOf
-returns c = rw (eq-eqb _ _ (c .if1 .taken ∙ c .before .length .ensures))
-
-returns-2 : tie.Need-returns-2
-unfolding sizedOf
-returns-2 c = rw (ne-eqb _ _ (λ e. c .if1 .left (e ∙ sym (c .before .length .ensures))))
-
 pub sized-spec : {M : Type 1} → statement M
-sized-spec = tie.close (tie.spec length-requires returns returns-2)
+unfolding sizedOf
+sized-spec =
+    tie.close
+    (tie.spec (λ c κs. search needs) (λ c. rw (eq-eqb _ _ (c .if1 .taken ∙ c .before .length .ensures)))
+    (λ c. rw (ne-eqb _ _ (λ e. c .if1 .left (e ∙ sym (c .before .length .ensures))))))

@@ -7,18 +7,6 @@ use mathlib.Core.Path.{refl}
 use Rattle.programs.proofs.storing.put_four.Statement.{statement}
 use Rattle.programs.proofs.storing.put_four.Tie as tie
 
-put-three-requires : tie.Need-put-three-requires
-put-three-requires c κs = search needs
-
-add-put : tie.Need-add-put
-add-put c = search needs
-
-put-requires : tie.Need-put-requires
-put-requires c κs = search needs
-
-same-length : tie.Need-same-length
-same-length c = search needs
-
 returns : tie.Need-returns
 returns c =
     let last = c .before .before in
@@ -27,4 +15,4 @@ returns c =
     field-after _ _ _ (a .x ∷ a .y ∷ a .z ∷ []) _ _ _ _ (first .put-three .ensures) (last .put .ensures) refl refl (omega arith)
 
 pub put-four-spec : {M : Type 1} → statement M
-put-four-spec = tie.close (tie.spec put-three-requires add-put put-requires same-length returns)
+put-four-spec = tie.close (tie.spec (λ c κs. search needs) (λ c. search needs) (λ c κs. search needs) (λ c. search needs) returns)

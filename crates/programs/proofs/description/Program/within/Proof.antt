@@ -3,15 +3,6 @@ use borrow.Author.Needs.{needs}
 use Rattle.programs.proofs.description.Program.within.Statement.{statement}
 use Rattle.programs.proofs.description.Program.within.Tie as tie
 
-among-requires : tie.Need-among-requires
-among-requires c κs = search needs
-
-among-requires-2 : tie.Need-among-requires-2
-among-requires-2 c κs = search needs
-
-among-requires-3 : tie.Need-among-requires-3
-among-requires-3 c κs = search needs
-
 returns : tie.Need-returns
 returns c =
     let outputs = c .before in
@@ -19,4 +10,4 @@ returns c =
     rw (inputs .before .among .ensures, inputs .among2 .ensures, outputs .among3 .ensures)
 
 pub within-spec : {M : Type 1} → statement M
-within-spec = tie.close (tie.spec among-requires among-requires-2 among-requires-3 returns)
+within-spec = tie.close (tie.spec (λ c κs. search needs) (λ c κs. search needs) (λ c κs. search needs) returns)

@@ -4,9 +4,6 @@ use Rattle.programs.specs.Limits.{unwritten, unset}
 use Rattle.programs.proofs.description.Seen.fresh.Statement.{statement}
 use Rattle.programs.proofs.description.Seen.fresh.Tie as tie
 
-returns : tie.Need-returns
-unfolding unwritten unset
-returns c = search needs
-
 pub fresh-spec : {M : Type 1} → statement M
-fresh-spec = tie.close (tie.spec returns)
+unfolding unwritten unset
+fresh-spec = tie.close (tie.spec (λ c. search needs))
