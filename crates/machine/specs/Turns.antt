@@ -117,7 +117,7 @@ module _ {file : List ℕ} {n₀ from : ℕ} {rs₀ : List ℕ} {n at : ℕ} {rs
 
 module _ {file : List ℕ} {n₀ from : ℕ} {rs₀ : List ℕ} {n at : ℕ} {rs : List ℕ} {a : Along file n₀ from rs₀ n at rs} {g : Connective} where
   pub next-gate : Next a g → Gate file at (length rs)
-  next-gate t = is-gate (record { ready = along-ready a (t .some); kind = refl }) g (t .kind) .1
+  next-gate t = is-gate (along-ready a (t .some)) refl g (t .kind) .1
 
   pub gate-done : Next a g → {rs′ : List ℕ} → rs′ ≡ gateWords g file at rs → Along file n₀ from rs₀ (n - 1) (at + 10) rs′
   gate-done t {rs′} q =
