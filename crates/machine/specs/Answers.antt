@@ -4,11 +4,10 @@ use mathlib.Core.Path.{_≡_, refl, sym, ap, _∙_, subst}
 use mathlib.Core.Bool.{Bool, true, false, not, _||_}
 use mathlib.Core.List.{List, [], _∷_, _++_}
 use native.Mathlib.Omega.{arith}
-use borrow.Author.Tests.{le-ltb, lt-ltb, ltb-false}
+use borrow.Author.Tests.{le-ltb, lt-ltb}
 use lib.Dec.{ltb}
 use lib.ListN.{length, take, drop, length-take}
 use lib.Seq.{length-take-le}
-use Rattle.laws.specs.Tests.{neither}
 use Rattle.laws.specs.Sums.{any}
 use Rattle.laws.specs.Lay.{lay, lay-nothing}
 use Rattle.laws.specs.Outcome.{Outcome, refused, gives, refuse, _>>_, passed, bound, gives-inj, mapped, laid, mapped-gives}
@@ -21,7 +20,7 @@ use Rattle.machine.specs.Meaning.{wordGates}
 use Rattle.checker.specs.Checks.{Code, also, instructionOf, codeOf, nothing, checkOf}
 use Rattle.machine.specs.Runs.{Ended, runOf, roomFor}
 use Rattle.machine.specs.Calls.{Room, Sized, Entry, start, resume, onEntry, Call, callOn, begins, from, admits, call-is, call-gives}
-use Rattle.machine.specs.Calls.{cleared, lent, admitted, sized-from, sized-run}
+use Rattle.machine.specs.Calls.{cleared, lent, admitted, room-says, sized-from, sized-run}
 use Rattle.checker.specs.Standing.{readOf, Formed}
 use Rattle.machine.specs.Steps.{state}
 use Rattle.machine.specs.Turns.{Ends, prepared}
@@ -96,22 +95,15 @@ either false true c = refl
 either false false true = refl
 either false false false = refl
 
-room-is : (k : Call ℕ) (p : Program) → roomFor (k .gates) p (k .inputs) (k .registers) (k .outputs) ≡
-    refuse 13 (lacking p (k .inputs) (k .registers) (k .outputs))
-room-is k p =
-    either (ltb (length (k .inputs)) (p .inputs)) (ltb (length (k .registers)) (p .registers)) (ltb (length (k .outputs)) (p .outputs))
+room-is : (p : Program) (inputs registers outputs : List ℕ) →
+    roomFor wordGates p inputs registers outputs ≡ refuse 13 (lacking p inputs registers outputs)
+room-is p inputs registers outputs =
+    either (ltb (length inputs) (p .inputs)) (ltb (length registers) (p .registers)) (ltb (length outputs) (p .outputs))
 
 pub room-means : (p : Program) (inputs registers outputs : List ℕ) (b : Bool) → b ≡ lacking p inputs registers outputs → b ≡ false →
     Room p inputs registers outputs
 room-means p inputs registers outputs b e q =
-    let s =
-    neither (ltb (length inputs) (p .inputs) || ltb (length registers) (p .registers)) (ltb (length outputs) (p .outputs)) (sym e ∙ q) in
-    let t = neither (ltb (length inputs) (p .inputs)) (ltb (length registers) (p .registers)) (s .0) in
-    record {
-      for-inputs = ltb-false (length inputs) (p .inputs) (t .0);
-      for-registers = ltb-false (length registers) (p .registers) (t .1);
-      for-outputs = ltb-false (length outputs) (p .outputs) (s .1);
-    }
+    room-says wordGates p inputs registers outputs (room-is p inputs registers outputs ∙ rw (← e, q))
 
 -- the parts that are lent
 pub part-long : (n : ℕ) (ws : List ℕ) → n ≤ length ws → n ≡ length (take n ws)
@@ -142,7 +134,7 @@ module _ (k : Call ℕ) (budget : ℕ) where
     call-short l b is-b t =
         let a = accepted-file (k .file) p e in
         refuses 13
-        (rw (a .checks, le-ltb (length (a .code .instructions)) (begins k) (omega (arith, a .counted)), a .header, room-is k p, ← is-b, t))
+        (rw (a .checks, le-ltb (length (a .code .instructions)) (begins k) (omega (arith, a .counted)), a .header, room-is p (k .inputs) (k .registers) (k .outputs), ← is-b, t))
 
 -- ---- a run
 -- what a run leaves, as the definition says it

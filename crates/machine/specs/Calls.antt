@@ -130,21 +130,6 @@ module _ {A : Type 0} (G : Gates A) where
       }
 
   module _ (file : List ℕ) (inputs registers outputs : List A) where
-    pub admitted-says : (position : ℕ) (c : Code) → admitted G file inputs registers outputs position ≡ gives c →
-        Runnable file inputs registers outputs position c
-    unfolding admitted
-    admitted-says position c e =
-        let c1 = bound (checkOf file) _ c e in
-        let n : Code = c1 .0 in
-        let c2 = passed 12 (ltb (length (n .instructions)) position) _ c (c1 .2) in
-        let c3 = then-gives (roomFor G (n .program) inputs registers outputs) (gives n) c (c2 .1) in
-        rw (← gives-inj (c3 .1))
-        (record {
-          accepted = c1 .1;
-          before-end = ltb-false (length (n .instructions)) position (c2 .0);
-          room = room-says (n .program) inputs registers outputs (c3 .0);
-        })
-
     pub admitted-gives : (position : ℕ) (c : Code) → Runnable file inputs registers outputs position c →
         admitted G file inputs registers outputs position ≡ gives c
     unfolding admitted
@@ -173,20 +158,16 @@ module _ {A : Type 0} (G : Gates A) where
         (λ c. rw (le-ltb (length (c .instructions)) 0 (omega arith))
         (mapped-then (roomFor G (c .program) inputs registers outputs) _ _ run refl))
 
-    pub resume-is : (position budget : ℕ) → resumeOn G file inputs registers outputs position budget ≡
-        mapped (callRun (resuming G file inputs registers outputs position) budget) (admitted G file inputs registers outputs position)
+    entry-is : (e : Entry) (budget : ℕ) →
+        let k : Call A = record { gates = G; file = file; inputs = inputs; registers = registers; outputs = outputs; entry = e } in
+        callOn k budget ≡ mapped (callRun k budget) (admits k)
     unfolding resumeOn admitted
-    resume-is position budget =
+    entry-is start budget = start-is budget
+    entry-is (resume position) budget =
         let run : Code → Ended A = callRun (resuming G file inputs registers outputs position) budget in
         mapped-bind (checkOf file) _ _ run
         (λ c. mapped-then (refuse 12 (ltb (length (c .instructions)) position)) _ _ run
         (mapped-then (roomFor G (c .program) inputs registers outputs) _ _ run refl))
-
-    entry-is : (e : Entry) (budget : ℕ) →
-        let k : Call A = record { gates = G; file = file; inputs = inputs; registers = registers; outputs = outputs; entry = e } in
-        callOn k budget ≡ mapped (callRun k budget) (admits k)
-    entry-is start budget = start-is budget
-    entry-is (resume position) budget = resume-is position budget
 
   -- ---- a call's words are as many as the header says, before it and after
   pub sized-cleared : (p : Program) → Sized p (cleared G p)
@@ -218,7 +199,18 @@ module _ {A : Type 0} (k : Call A) where
   call-part budget f = rw (call-is budget) (mapped-mapped (callRun k budget) f _ (admits k) (λ c. refl))
 
   pub admits-says : (c : Code) → admits k ≡ gives c → MayRun k c
-  admits-says = admitted-says (k .gates) (k .file) (k .inputs) (k .registers) (k .outputs) (begins k)
+  unfolding admitted
+  admits-says c e =
+      let c1 = bound (checkOf (k .file)) _ c e in
+      let n : Code = c1 .0 in
+      let c2 = passed 12 (ltb (length (n .instructions)) (begins k)) _ c (c1 .2) in
+      let c3 = then-gives (roomFor (k .gates) (n .program) (k .inputs) (k .registers) (k .outputs)) (gives n) c (c2 .1) in
+      rw (← gives-inj (c3 .1))
+      (record {
+        accepted = c1 .1;
+        before-end = ltb-false (length (n .instructions)) (begins k) (c2 .0);
+        room = room-says (k .gates) (n .program) (k .inputs) (k .registers) (k .outputs) (c3 .0);
+      })
 
   -- so a call that may run its program gives that run, and one that gives a result has run
   pub call-gives : (budget : ℕ) (c : Code) → MayRun k c → callOn k budget ≡ gives (callRun k budget c)

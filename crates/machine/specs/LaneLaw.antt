@@ -173,9 +173,7 @@ module _ {A : Type 0} (P : A → Type 0) (k : Call A) (c : Closed (k .gates) P) 
       pub call-map : (budget : ℕ) → mapped (mapEnded f) (callOn k budget) ≡ callOn mapCall budget
       call-map budget =
           calls-agree k mapCall budget
-          (equal-lengths (k .gates) H (k .file) (k .inputs) (k .registers) (k .outputs) (map f (k .inputs)) (map f (k .registers))
-          (map f (k .outputs)) (sym (length-map (k .inputs) f)) (sym (length-map (k .registers) f)) (sym (length-map (k .outputs) f))
-          (begins k))
+          (equal-lengths _ _ _ _ _ _ _ _ _ (sym (length-map (k .inputs) f)) (sym (length-map (k .registers) f)) (sym (length-map (k .outputs) f)) (begins k))
           (mapEnded f) (λ e. e)
           (λ x w. run-map (k .gates) P c (k .inputs) p H f m (x .instructions) (begins k) budget (from k (x .program))
           (kept-from a (x .program)) ∙ rw (map-from (x .program))) ∙

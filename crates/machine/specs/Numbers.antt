@@ -85,14 +85,14 @@ module _ {A B : Type 0} (G : Gates A) (H : Gates B) (file : List ℕ) (inputs re
         mapped (λ e. e .answer) (startOn H file inputs′ registers′ outputs′ budget)
     start-alike =
         call-numbers (starting G file inputs registers outputs) (starting H file inputs′ registers′ outputs′) refl
-        (both-enough G H file inputs registers outputs inputs′ registers′ outputs′ enough enough′ 0)
+        (both-enough _ _ _ _ _ _ _ _ _ enough enough′ 0)
 
     pub resume-alike : (position budget : ℕ) →
         mapped (λ e. e .answer) (resumeOn G file inputs registers outputs position budget) ≡
         mapped (λ e. e .answer) (resumeOn H file inputs′ registers′ outputs′ position budget)
     resume-alike position =
         call-numbers (resuming G file inputs registers outputs position) (resuming H file inputs′ registers′ outputs′ position) refl
-        (both-enough G H file inputs registers outputs inputs′ registers′ outputs′ enough enough′ position)
+        (both-enough _ _ _ _ _ _ _ _ _ enough enough′ position)
 
   -- and of equal lengths, long enough or not
   module _ (i : length inputs ≡ length inputs′) (r : length registers ≡ length registers′) (o : length outputs ≡ length outputs′) where
@@ -101,11 +101,11 @@ module _ {A B : Type 0} (G : Gates A) (H : Gates B) (file : List ℕ) (inputs re
         mapped (λ e. e .answer) (startOn H file inputs′ registers′ outputs′ budget)
     start-same =
         call-numbers (starting G file inputs registers outputs) (starting H file inputs′ registers′ outputs′) refl
-        (equal-lengths G H file inputs registers outputs inputs′ registers′ outputs′ i r o 0)
+        (equal-lengths _ _ _ _ _ _ _ _ _ i r o 0)
 
     pub resume-same : (position budget : ℕ) →
         mapped (λ e. e .answer) (resumeOn G file inputs registers outputs position budget) ≡
         mapped (λ e. e .answer) (resumeOn H file inputs′ registers′ outputs′ position budget)
     resume-same position =
         call-numbers (resuming G file inputs registers outputs position) (resuming H file inputs′ registers′ outputs′ position) refl
-        (equal-lengths G H file inputs registers outputs inputs′ registers′ outputs′ i r o position)
+        (equal-lengths _ _ _ _ _ _ _ _ _ i r o position)

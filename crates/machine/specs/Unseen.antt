@@ -39,12 +39,12 @@ module _ {A : Type 0} (G : Gates A) (file : List ℕ) (inputs registers outputs 
   -- the answer, and the registers and outputs after it, whether it stops or finishes
   pub start-forgets : length registers ≡ length registers′ → length outputs ≡ length outputs′ →
       startOn G file inputs registers outputs budget ≡ startOn G file inputs registers′ outputs′ budget
-  start-forgets r o = start-blind (equal-lengths G G file inputs registers outputs inputs registers′ outputs′ refl r o 0)
+  start-forgets r o = start-blind (equal-lengths _ _ _ _ _ _ _ _ _ refl r o 0)
 
   -- also where other numbers of words are lent, all enough
   pub start-forgets-enough : Enough file inputs registers outputs → Enough file inputs registers′ outputs′ →
       startOn G file inputs registers outputs budget ≡ startOn G file inputs registers′ outputs′ budget
-  start-forgets-enough a b = start-blind (both-enough G G file inputs registers outputs inputs registers′ outputs′ a b 0)
+  start-forgets-enough a b = start-blind (both-enough _ _ _ _ _ _ _ _ _ a b 0)
 
 -- ---- inputs that no instruction takes
 module _ {A : Type 0} (G : Gates A) (inputs inputs′ : List A) (K : ℕ → Type 0)
