@@ -134,7 +134,14 @@ module _ (k : Call ℕ) (budget : ℕ) where
     call-short l b is-b t =
         let a = accepted-file (k .file) p e in
         refuses 13
-        (rw (a .checks, le-ltb (length (a .code .instructions)) (begins k) (omega (arith, a .counted)), a .header, room-is p (k .inputs) (k .registers) (k .outputs), ← is-b, t))
+        (rw (
+          a .checks,
+          le-ltb (length (a .code .instructions)) (begins k) (omega (arith, a .counted)),
+          a .header,
+          room-is p (k .inputs) (k .registers) (k .outputs),
+          ← is-b,
+          t,
+        ))
 
 -- ---- a run
 -- what a run leaves, as the definition says it

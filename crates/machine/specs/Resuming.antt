@@ -12,7 +12,6 @@ use Rattle.laws.specs.Lay.{lay, take-lay, lay-again}
 use Rattle.laws.specs.Outcome.{Outcome, refused, gives, _>>=_, mapped, laid, gives-inj, no-result, bind-after, bind-gives}
 use Rattle.laws.specs.Outcome.{bind-mapped}
 use Rattle.programs.specs.Reading.{within-means}
-use Rattle.programs.specs.declared.description.Program.{Program}
 use Rattle.programs.specs.declared.description.Instruction.{Instruction}
 use Rattle.machine.specs.Meaning.{Gates, State, exec, exec-append}
 use Rattle.checker.specs.Checks.{Code, checkOf}
@@ -113,14 +112,6 @@ pub carried-many : (budget position : ℕ) (is : List Instruction) →
 carried-many budget position is =
     omega (arith, length-take (steps budget position (length is)) (drop position is), length-drop position is)
 
-steps-join : (a b position count : ℕ) → count ≤ most-budget →
-    steps a position count + steps b (position + steps a position count) count ≡ steps (together a b) position count
-steps-join a b position count h = omega arith
-
-end-join : (a b position count : ℕ) → count ≤ most-budget →
-    position + steps a position count + steps b (position + steps a position count) count ≡ position + steps (together a b) position count
-end-join a b position count h = omega (arith, steps-join a b position count h)
-
 module _ {A : Type 0} (G : Gates A) (is : List Instruction) (inputs : List A) where
   -- from any position: a run, and a second one from where it ended, are one run on both budgets together
   pub run-continued : length is ≤ most-budget → (position a b : ℕ) (s : State A) →
@@ -135,19 +126,21 @@ module _ {A : Type 0} (G : Gates A) (is : List Instruction) (inputs : List A) wh
       exec G inputs (take (x + y) (drop position is)) s =
       rw (take-add x y (drop position is), drop-drop x position is)
       (sym (exec-append G inputs (take x (drop position is)) (take y (drop (position + x) is)) s)) in
-      rw (carried, steps-join a b position n few, end-join a b position n few)
+      let all : x + y ≡ steps (together a b) position n = omega arith in
+      let end : position + x + y ≡ position + steps (together a b) position n = omega (arith, all) in
+      rw (carried, all, end)
 
   -- a budget for all instructions
-  pub run-whole : (budget : ℕ) (s : State A) → length is ≤ budget →
+  run-whole : (count budget : ℕ) (s : State A) → count ≡ length is → count ≤ budget →
       runOf G is inputs 0 budget s ≡
       record {
-        answer = record { finished = true; position = length is; count = length is; budget = budget };
+        answer = record { finished = true; position = count; count = count; budget = budget };
         state = exec G inputs is s;
       }
   unfolding runOf
-  run-whole budget s h =
+  run-whole count budget s e h =
       let all : steps budget 0 (length is) ≡ length is = omega arith in
-      rw (all, zero-add (length is), eq-eqb (length is) (length is) refl, take-all (length is) is (omega arith))
+      rw (e, all, zero-add (length is), eq-eqb (length is) (length is) refl, take-all (length is) is (omega arith))
 
   run-before-end : (position budget : ℕ) (s : State A) → position ≤ length is →
       runOf G is inputs position budget s .answer .position ≤ length is
@@ -169,18 +162,6 @@ module _ {A : Type 0} where
         in-outputs = take-lay (length (s .outputs)) (s .outputs) outputs refl;
       }
 
-  front-long : (xs buf : List A) → take (length xs) buf ≡ xs → length xs ≤ length buf
-  front-long xs buf e = omega (arith, length-take (length xs) buf, ap length e)
-
-  room-held : (p : Program) (s : State A) (inputs registers outputs : List A) → p .inputs ≤ length inputs → Sized p s →
-      Holds s registers outputs → Room p inputs registers outputs
-  room-held p s inputs registers outputs i z h =
-      record {
-        for-inputs = i;
-        for-registers = omega (arith, front-long (s .registers) registers (h .in-registers), z .of-registers);
-        for-outputs = omega (arith, front-long (s .outputs) outputs (h .in-outputs), z .of-outputs);
-      }
-
 module _ {A : Type 0} (G : Gates A) (file : List ℕ) (inputs : List A) where
   -- a resume on buffers that hold a state runs on from that state
   resume-held : (c : Code) → checkOf file ≡ gives c → c .program .inputs ≤ length inputs → (s : State A) (registers outputs : List A)
@@ -188,7 +169,15 @@ module _ {A : Type 0} (G : Gates A) (file : List ℕ) (inputs : List A) where
       resumeOn G file inputs registers outputs position budget ≡ gives (runOf G (c .instructions) inputs position budget s)
   resume-held c ok i s registers outputs position budget z h l =
       call-gives (resuming G file inputs registers outputs position) budget c
-      (record { accepted = ok; before-end = l; room = room-held (c .program) s inputs registers outputs i z h }) ∙
+      (record {
+        accepted = ok;
+        before-end = l;
+        room = record {
+          for-inputs = i;
+          for-registers = omega (arith, length-take (length (s .registers)) registers, ap length (h .in-registers), z .of-registers);
+          for-outputs = omega (arith, length-take (length (s .outputs)) outputs, ap length (h .in-outputs), z .of-outputs);
+        };
+      }) ∙
       rw (← z .of-registers, ← z .of-outputs, h .in-registers, h .in-outputs)
 
   -- of registers and outputs a resume sees those at the front, as many as the header counts
@@ -220,12 +209,9 @@ module _ {A : Type 0} (k : Call A) where
       callOn k budget ≡ gives (wholeRun (k .gates) c (k .inputs) budget (from k (c .program)))
   call-whole first budget c ok room enough =
       call-gives k budget c (record { accepted = ok; before-end = omega arith; room = room }) ∙
-      rw first (ap gives (all (from k (c .program))))
-    where
-      all : (s : State A) → runOf (k .gates) (c .instructions) (k .inputs) 0 budget s ≡ wholeRun (k .gates) c (k .inputs) budget s
-      all s =
-          let n : c .program .count ≡ length (c .instructions) = accepted-sound (k .file) c ok .counted in
-          rw n (run-whole (k .gates) (c .instructions) (k .inputs) budget s (omega arith))
+      rw first
+      (ap gives (run-whole (k .gates) (c .instructions) (k .inputs) (c .program .count) budget (from k (c .program))
+      (accepted-sound (k .file) c ok .counted) enough))
 
   -- the run of a call, and that of a resume on what it left
   module _ (a b : ℕ) (c : Code) (w : MayRun k c) where

@@ -16,11 +16,11 @@ use Rattle.programs.specs.Instructions.{uses}
 use Rattle.programs.specs.declared.description.Program.{Program}
 use Rattle.programs.specs.declared.description.Instruction.{Instruction}
 use Rattle.programs.specs.declared.description.Instruction.the-variants.{Ones, Zero, Input, Not, And, Or, Output}
-use Rattle.machine.specs.Meaning.{Gates, State, step, exec, step-long, exec-long}
+use Rattle.machine.specs.Meaning.{Gates, State, into, step, exec, step-long, exec-long}
 use Rattle.checker.specs.Checks.{Code, checkOf}
 use Rattle.machine.specs.Runs.{Ended, steps, carried, runOf, startOn, resumeOn}
-use Rattle.machine.specs.Calls.{Room, Enough, Sized, starting, resuming, cleared, lent, admitted}
-use Rattle.machine.specs.Calls.{sized-cleared, sized-lent, equal-lengths, both-enough, calls-equal}
+use Rattle.machine.specs.Calls.{Room, Enough, Sized, Entry, start, resume, Call, starting, cleared, lent, callOn, begins, from}
+use Rattle.machine.specs.Calls.{admitted, sized-cleared, sized-lent, equal-lengths, both-enough, calls-equal}
 use Rattle.laws.specs.Every.{OneOf}
 use Rattle.checker.specs.Accepting.{Fits, Ready, Sets, none, Sound}
 use Rattle.checker.specs.Encoding.{accepted-sound}
@@ -32,19 +32,19 @@ Takes K i = Each K (uses i .takes)
 
 -- ---- a start does not see what registers and outputs held before
 module _ {A : Type 0} (G : Gates A) (file : List ℕ) (inputs registers outputs registers′ outputs′ : List A) (budget : ℕ) where
-  start-blind : admitted G file inputs registers outputs 0 ≡ admitted G file inputs registers′ outputs′ 0 →
-      startOn G file inputs registers outputs budget ≡ startOn G file inputs registers′ outputs′ budget
-  start-blind e = calls-equal (starting G file inputs registers outputs) (starting G file inputs registers′ outputs′) budget e (λ c w. refl)
-
   -- the answer, and the registers and outputs after it, whether it stops or finishes
   pub start-forgets : length registers ≡ length registers′ → length outputs ≡ length outputs′ →
       startOn G file inputs registers outputs budget ≡ startOn G file inputs registers′ outputs′ budget
-  start-forgets r o = start-blind (equal-lengths _ _ _ _ _ _ _ _ _ refl r o 0)
+  start-forgets r o =
+      calls-equal (starting G file inputs registers outputs) (starting G file inputs registers′ outputs′) budget
+      (equal-lengths _ _ _ _ _ _ _ _ _ refl r o 0) (λ c w. refl)
 
   -- also where other numbers of words are lent, all enough
   pub start-forgets-enough : Enough file inputs registers outputs → Enough file inputs registers′ outputs′ →
       startOn G file inputs registers outputs budget ≡ startOn G file inputs registers′ outputs′ budget
-  start-forgets-enough a b = start-blind (both-enough _ _ _ _ _ _ _ _ _ a b 0)
+  start-forgets-enough a b =
+      calls-equal (starting G file inputs registers outputs) (starting G file inputs registers′ outputs′) budget
+      (both-enough _ _ _ _ _ _ _ _ _ a b 0) (λ c w. refl)
 
 -- ---- inputs that no instruction takes
 module _ {A : Type 0} (G : Gates A) (inputs inputs′ : List A) (K : ℕ → Type 0)
@@ -87,8 +87,7 @@ module _ {A : Type 0} (G : Gates A) (p : Program) where
         record { of-registers = l .0 ∙ w .of-registers; of-outputs = l .1 ∙ w .of-outputs }
 
     into-agree : (W O : ℕ → Type 0) (s t : State A) (to : ℕ) (x y : A) → to < p .registers → Sized p s → Sized p t → x ≡ y → Agree W O s t →
-        Agree (λ r. OneOf (to ∷ []) r ⊎ W r) (λ o. OneOf [] o ⊎ O o) (record { registers = set (s .registers) to x; outputs = s .outputs })
-        (record { registers = set (t .registers) to y; outputs = t .outputs })
+        Agree (λ r. OneOf (to ∷ []) r ⊎ W r) (λ o. OneOf [] o ⊎ O o) (into G inputs to x s) (into G inputs to y t)
     into-agree W O s t to x y l w v e g =
         record {
           registers =
@@ -146,31 +145,20 @@ module _ {A : Type 0} (G : Gates A) (p : Program) where
 module _ {A : Type 0} (G : Gates A) (file : List ℕ) (c : Code) (ok : checkOf file ≡ gives c) where
   module _ (inputs inputs′ : List A) (K : ℕ → Type 0) (same : (n : ℕ) → K n → getD inputs n (G .zeros) ≡ getD inputs′ n (G .zeros))
       (registers outputs : List A) (l : c .program .inputs ≤ length inputs) (l′ : c .program .inputs ≤ length inputs′) where
-    enough-inputs : (position : ℕ) → admitted G file inputs registers outputs position ≡ admitted G file inputs′ registers outputs position
-    unfolding admitted
-    enough-inputs position = rw (ok, le-ltb (length inputs) (c .program .inputs) l, le-ltb (length inputs′) (c .program .inputs) l′)
+    abbrev calls : Entry → List A → Call A
+    calls e words = record { gates = G; file = file; inputs = words; registers = registers; outputs = outputs; entry = e }
 
-    run-waits : (d : Code) → checkOf file ≡ gives d → (position budget : ℕ) (s : Program → State A) →
-        Each (Takes K) (carried budget position (c .instructions)) →
-        runOf G (d .instructions) inputs position budget (s (d .program)) ≡
-        runOf G (d .instructions) inputs′ position budget (s (d .program))
-    unfolding runOf
-    run-waits d q position budget s b =
-        let same-code : d ≡ c = gives-inj (sym q ∙ ok) in
-        rw (same-code, exec-inputs G inputs inputs′ K same (carried budget position (c .instructions)) (s (c .program)) b)
-
-    -- a start, and a resume, whose instructions take inputs of K alone come to the same whatever the other words are
-    start-waits : (budget : ℕ) → Each (Takes K) (carried budget 0 (c .instructions)) →
-        startOn G file inputs registers outputs budget ≡ startOn G file inputs′ registers outputs budget
-    start-waits budget b =
-        calls-equal (starting G file inputs registers outputs) (starting G file inputs′ registers outputs) budget (enough-inputs 0)
-        (λ d w. run-waits d (w .accepted) 0 budget (cleared G) b)
-
-    resume-waits : (position budget : ℕ) → Each (Takes K) (carried budget position (c .instructions)) →
-        resumeOn G file inputs registers outputs position budget ≡ resumeOn G file inputs′ registers outputs position budget
-    resume-waits position budget b =
-        calls-equal (resuming G file inputs registers outputs position) (resuming G file inputs′ registers outputs position) budget
-        (enough-inputs position) (λ d w. run-waits d (w .accepted) position budget (λ p. lent G p registers outputs) b)
+    -- a call whose instructions take inputs of K alone comes to the same whatever the other words are
+    waits : (e : Entry) (budget : ℕ) → Each (Takes K) (carried budget (begins (calls e inputs)) (c .instructions)) →
+        callOn (calls e inputs) budget ≡ callOn (calls e inputs′) budget
+    unfolding admitted runOf
+    waits e budget b =
+        let k : Call A = calls e inputs in
+        calls-equal k (calls e inputs′) budget
+        (rw (ok, le-ltb (length inputs) (c .program .inputs) l, le-ltb (length inputs′) (c .program .inputs) l′))
+        (λ d w.
+        let same-code : d ≡ c = gives-inj (sym (w .accepted) ∙ ok) in
+        rw (same-code, exec-inputs G inputs inputs′ K same (carried budget (begins k) (c .instructions)) (from k (c .program)) b))
 
     -- so where a start took words of K alone, a resume on what it left, with any other words filled in, comes to what one start on the
     -- words as they are then comes to
@@ -178,14 +166,14 @@ module _ {A : Type 0} (G : Gates A) (file : List ℕ) (c : Code) (ok : checkOf f
       pub start-waited : (a b : ℕ) (e : Ended A) → Each (Takes K) (carried a 0 (c .instructions)) →
           startOn G file inputs registers outputs a ≡ gives e → Holds (e .state) registers′ outputs′ →
           goneOn G file inputs′ registers′ outputs′ b e ≡ startOn G file inputs′ registers outputs (together a b)
-      start-waited a b e w q = start-continued G file inputs′ registers outputs registers′ outputs′ a b e (sym (start-waits a w) ∙ q)
+      start-waited a b e w q = start-continued G file inputs′ registers outputs registers′ outputs′ a b e (sym (waits start a w) ∙ q)
 
       -- and so with a resume
       pub resume-waited : (position a b : ℕ) (e : Ended A) → Each (Takes K) (carried a position (c .instructions)) →
           resumeOn G file inputs registers outputs position a ≡ gives e → Holds (e .state) registers′ outputs′ →
           goneOn G file inputs′ registers′ outputs′ b e ≡ resumeOn G file inputs′ registers outputs position (together a b)
       resume-waited position a b e w q =
-          resume-continued G file inputs′ registers outputs registers′ outputs′ position a b e (sym (resume-waits position a w) ∙ q)
+          resume-continued G file inputs′ registers outputs registers′ outputs′ position a b e (sym (waits (resume position) a w) ∙ q)
 
   -- a word that the header counts
   abbrev Counted : ℕ → Type 0
@@ -203,12 +191,12 @@ module _ {A : Type 0} (G : Gates A) (file : List ℕ) (c : Code) (ok : checkOf f
   module _ (inputs inputs′ : List A) (same : (n : ℕ) → n < c .program .inputs → getD inputs n (G .zeros) ≡ getD inputs′ n (G .zeros))
       (registers outputs : List A) (l : c .program .inputs ≤ length inputs) (l′ : c .program .inputs ≤ length inputs′) where
     pub start-inputs : (budget : ℕ) → startOn G file inputs registers outputs budget ≡ startOn G file inputs′ registers outputs budget
-    start-inputs budget = start-waits inputs inputs′ Counted same registers outputs l l′ budget (all-counted 0 budget)
+    start-inputs budget = waits inputs inputs′ Counted same registers outputs l l′ start budget (all-counted 0 budget)
 
     pub resume-inputs : (position budget : ℕ) →
         resumeOn G file inputs registers outputs position budget ≡ resumeOn G file inputs′ registers outputs position budget
     resume-inputs position budget =
-        resume-waits inputs inputs′ Counted same registers outputs l l′ position budget (all-counted position budget)
+        waits inputs inputs′ Counted same registers outputs l l′ (resume position) budget (all-counted position budget)
 
   -- carried out whole, from whatever registers and outputs held, the program leaves the outputs of a start
   pub whole-outputs : (inputs registers outputs registers′ outputs′ : List A) (budget : ℕ) → Room (c .program) inputs registers outputs →
