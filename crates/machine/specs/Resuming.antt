@@ -231,9 +231,6 @@ module _ {A : Type 0} (k : Call A) where
         sized-run (k .gates) (c .program) (c .instructions) (k .inputs) (begins k) a (from k (c .program))
         (sized-from k (c .program) (w .room))
 
-    sized-second : Sized (c .program) (second .state)
-    sized-second = sized-run (k .gates) (c .program) (c .instructions) (k .inputs) (first .answer .position) b (first .state) sized-first
-
     runs-on : (registers′ outputs′ : List A) → Holds (first .state) registers′ outputs′ →
         resumeOn (k .gates) (k .file) (k .inputs) registers′ outputs′ (first .answer .position) b ≡ gives second
     runs-on registers′ outputs′ held =
@@ -252,8 +249,8 @@ module _ {A : Type 0} (k : Call A) where
         gives (leaves (k .registers) (k .outputs) (callRun k (together a b) c))
     left-again =
         let x = sized-first in
-        let y = sized-second in
         let s = first .state in
+        let y = sized-run (k .gates) (c .program) (c .instructions) (k .inputs) (first .answer .position) b s x in
         rw (
           runs-on (lay (s .registers) (k .registers)) (lay (s .outputs) (k .outputs)) (holds-laid s (k .registers) (k .outputs)),
           ← one-run,

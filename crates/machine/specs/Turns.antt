@@ -234,16 +234,16 @@ pub record Cleared (i : ℕ) (ws₀ ws : List ℕ) : Type 0 where
 pub cleared-none : (ws : List ℕ) → Cleared 0 ws ws
 cleared-none ws = record { long = refl; front = refl }
 
-pub cleared-more : (i : ℕ) (ws₀ ws : List ℕ) → i < length ws₀ → Cleared i ws₀ ws → Cleared (i + 1) ws₀ (set ws i 0)
-cleared-more i ws₀ ws h c =
+pub cleared-more : {i : ℕ} {ws₀ ws : List ℕ} → i < length ws₀ → Cleared i ws₀ ws → Cleared (i + 1) ws₀ (set ws i 0)
+cleared-more {i} {ws₀} {ws} h c =
     record {
       long = length-set ws i 0 ∙ c .long;
       front = rw (add-one i)
           (take-suc-set ws i 0 (omega (arith, c .long)) ∙ rw (c .front) (replicate-append-replicate i 1 0 ∙ rw (add-one i)));
     }
 
-pub cleared-all : (i : ℕ) (ws₀ ws : List ℕ) → length ws₀ ≤ i → i ≤ length ws₀ → Cleared i ws₀ ws → ws ≡ replicate (length ws₀) 0
-cleared-all i ws₀ ws a b c =
+pub cleared-all : {i : ℕ} {ws₀ ws : List ℕ} → length ws₀ ≤ i → i ≤ length ws₀ → Cleared i ws₀ ws → ws ≡ replicate (length ws₀) 0
+cleared-all {i} {ws₀} {ws} a b c =
     let e : i ≡ length ws₀ = omega arith in
     sym (take-all i ws (omega (arith, c .long))) ∙ (c .front ∙ rw e)
 

@@ -124,12 +124,9 @@ module _ {A : Type 0} (G : Gates A) (p : Program) where
     exec-agree (i ∷ is) W O s t f e w v g o q =
         exec-agree is (λ r. OneOf (uses i .writes) r ⊎ W r) (λ o. OneOf (uses i .sets) o ⊎ O o) (step G inputs i s) (step G inputs i t)
         (f .1)
-        (e .1) (sized-step i s w) (sized-step i t v) (step-agree W O i s t (f .0) (e .0) w v g) o (turned q)
-      where
-        turned : (OneOf (uses i .sets) o ⊎ Sets o is) ⊎ O o → Sets o is ⊎ (OneOf (uses i .sets) o ⊎ O o)
-        turned (inl (inl z)) = inr (inl z)
-        turned (inl (inr z)) = inl z
-        turned (inr z) = inr (inr z)
+        (e .1) (sized-step i s w) (sized-step i t v) (step-agree W O i s t (f .0) (e .0) w v g) o
+        (⊎-elim (λ (z : OneOf (uses i .sets) o ⊎ Sets o is). ⊎-elim (λ (x : OneOf (uses i .sets) o). inr (inl x)) inl z)
+        (λ (z : O o). inr (inr z)) q)
 
     -- from any two states of as many words as the header says, a sound program's instructions leave the same outputs
     exec-forgets : (is : List Instruction) → Sound p is → (s t : State A) → Sized p s → Sized p t →
