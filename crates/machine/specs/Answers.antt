@@ -1,30 +1,29 @@
 -- The ways of a start and a resume, in the words of their contracts, and what an accepted program says of its bytes. Assumes nothing.
 use Prim.Native.Nat.{ℕ, zero, suc, _≤_, _<_}
 use mathlib.Core.Path.{_≡_, refl, sym, ap, _∙_, subst}
-use mathlib.Core.Bool.{Bool, true, false, not, _||_}
-use mathlib.Core.List.{List, [], _∷_, _++_}
+use mathlib.Core.Bool.{Bool, true, false, _||_}
+use mathlib.Core.List.{List, _∷_, _++_}
 use native.Mathlib.Omega.{arith}
 use borrow.Author.Tests.{le-ltb, lt-ltb}
 use lib.Dec.{ltb}
 use lib.ListN.{length, take, drop, length-take}
 use lib.Seq.{length-take-le}
-use Rattle.laws.specs.Sums.{any}
 use Rattle.laws.specs.Lay.{lay, lay-nothing}
-use Rattle.laws.specs.Outcome.{Outcome, refused, gives, refuse, _>>_, passed, bound, gives-inj, mapped, laid, mapped-gives}
-use Rattle.laws.specs.Outcome.{mapped-refused}
+use Rattle.laws.specs.Outcome.{Outcome, refused, gives, refuse, _>>_, mapped, laid, mapped-gives, mapped-refused}
 use Rattle.programs.specs.Instructions.{uses, lengthOf}
 use Rattle.programs.specs.Header.{header-length}
 use Rattle.programs.specs.declared.description.Program.{Program}
 use Rattle.programs.specs.declared.description.Instruction.{Instruction}
 use Rattle.machine.specs.Meaning.{wordGates}
-use Rattle.checker.specs.Checks.{Code, also, instructionOf, codeOf, nothing, checkOf}
+use Rattle.checker.specs.Checks.{Code, also, codeOf, nothing, checkOf}
 use Rattle.machine.specs.Runs.{Ended, runOf, roomFor}
 use Rattle.machine.specs.Calls.{Room, Sized, Entry, start, resume, onEntry, Call, callOn, begins, from, admits, call-is, call-gives}
 use Rattle.machine.specs.Calls.{cleared, lent, admitted, room-says, sized-from, sized-run}
 use Rattle.checker.specs.Standing.{readOf, Formed}
 use Rattle.machine.specs.Steps.{state}
 use Rattle.machine.specs.Turns.{Ends, prepared}
-use Rattle.checker.specs.Operands.{range-means, range-wider, instruction-means}
+use Rattle.checker.specs.Operands.{range-means, range-wider}
+use Rattle.checker.specs.Encoding.{code-says, code-ends, accepted-sound}
 use Rattle.checker.specs.Checking.{check-says}
 use Rattle.machine.specs.declared.runs.Run.{Run}
 
@@ -61,24 +60,18 @@ code-stands : (p : Program) (n : ℕ) (written set : ℕ → Bool) (bytes : List
     codeOf n p written set bytes ≡ gives is →
     ((inputs registers outputs : List ℕ) → Room p inputs registers outputs →
     Formed n (length registers) (length inputs) (length outputs) bytes) ×
-    ((readOf n bytes ≡ is) × (length is ≡ n))
-unfolding codeOf Formed readOf
-code-stands p zero written set bytes is e =
-    let c1 = passed 4 (ltb 0 (length bytes)) (refuse 10 (any (p .outputs) (λ o. not (set o))) >> gives []) is e in
-    let c2 = passed 10 (any (p .outputs) (λ o. not (set o))) (gives []) is (c1 .1) in
-    (λ inputs registers outputs r. tt, (gives-inj (c2 .1), ap length (sym (gives-inj (c2 .1)))))
+    (readOf n bytes ≡ is)
+unfolding Formed readOf
+code-stands p zero written set bytes is e = (λ inputs registers outputs r. tt, sym (code-ends p written set bytes is e .1))
 code-stands p (suc n) written set bytes is e =
-    let c1 = bound (instructionOf p written bytes) _ is e in
-    let i = c1 .0 in
-    let c2 = bound (codeOf n p (also written (uses i .writes)) (also set (uses i .sets)) (drop (lengthOf i) bytes)) _ is (c1 .2) in
-    let m = instruction-means p written bytes i (c1 .1) in
-    let h = code-stands p n (also written (uses i .writes)) (also set (uses i .sets)) (drop (lengthOf i) bytes) (c2 .0) (c2 .1) in
-    let all : i ∷ c2 .0 ≡ is = gives-inj (c2 .2) in (
-      λ inputs registers outputs r. rw (m .0) (
-        range-wider _ _ _ _ _ _ i (r .for-registers) (r .for-inputs) (r .for-outputs) (range-means p i (m .1)),
+    let c = code-says n p written set bytes is e in
+    let i = c .first in
+    let h = code-stands p n (also written (uses i .writes)) (also set (uses i .sets)) (drop (lengthOf i) bytes) (c .rest) (c .behind) in (
+      λ inputs registers outputs r. rw (c .read) (
+        range-wider _ _ _ _ _ _ i (r .for-registers) (r .for-inputs) (r .for-outputs) (range-means p i (c .in-range)),
         h .0 inputs registers outputs r,
       ),
-      (rw (m .0) (ap (λ (js : List Instruction). i ∷ js) (h .1 .0) ∙ all), ap length (sym all) ∙ ap suc (h .1 .1)),
+      rw (c .read) (ap (λ (js : List Instruction). i ∷ js) (h .1) ∙ sym (c .split)),
     )
 
 pub accepted-file : (file : List ℕ) (p : Program) → gives p ≡ mapped (λ c. c .program) (checkOf file) → Accepted file p
@@ -86,7 +79,8 @@ accepted-file file p e =
     let m = mapped-gives (λ (c : Code). c .program) (checkOf file) p e in
     let s = rw (m .2) at (check-says file (m .0) (m .1) .1) in
     let h = code-stands p (p .count) nothing nothing (drop header-length file) (m .0 .instructions) s in
-    record { code = m .0; checks = m .1; header = m .2; formed = h .0; reads = h .1 .0; counted = h .1 .1 }
+    let n = sym (rw (m .2) at (accepted-sound file (m .0) (m .1) .counted)) in
+    record { code = m .0; checks = m .1; header = m .2; formed = h .0; reads = h .1; counted = n }
 
 -- ---- room
 either : (a b c : Bool) → (refuse 13 a >> (refuse 13 b >> (refuse 13 c >> gives tt))) ≡ refuse 13 (a || b || c)

@@ -174,14 +174,6 @@ module _ {A : Type 0} (G : Gates A) where
   sized-cleared p =
       record { of-registers = length-replicate (p .registers) (G .zeros); of-outputs = length-replicate (p .outputs) (G .zeros) }
 
-  pub sized-lent : (p : Program) (inputs registers outputs : List A) → Room p inputs registers outputs →
-      Sized p (lent G p registers outputs)
-  sized-lent p inputs registers outputs r =
-      record {
-        of-registers = length-take-le (p .registers) registers (r .for-registers);
-        of-outputs = length-take-le (p .outputs) outputs (r .for-outputs);
-      }
-
   pub sized-run : (p : Program) (is : List Instruction) (inputs : List A) (position budget : ℕ) (s : State A) → Sized p s →
       Sized p (runOf G is inputs position budget s .state)
   unfolding runOf
@@ -227,7 +219,11 @@ module _ {A : Type 0} (k : Call A) where
     where
       by : (e : Entry) → Sized p (onEntry e (cleared (k .gates) p) (λ position. lent (k .gates) p (k .registers) (k .outputs)))
       by start = sized-cleared (k .gates) p
-      by (resume position) = sized-lent (k .gates) p (k .inputs) (k .registers) (k .outputs) r
+      by (resume position) =
+          record {
+            of-registers = length-take-le (p .registers) (k .registers) (r .for-registers);
+            of-outputs = length-take-le (p .outputs) (k .outputs) (r .for-outputs);
+          }
 
 -- ---- two calls, of one kind of gates or of two
 -- two calls that admit the same program agree in what their runs of it agree in

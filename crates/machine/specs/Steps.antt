@@ -57,6 +57,7 @@ pub record Operands (file : List ℕ) (at : ℕ) (ins rs os : List ℕ) (k to a 
   pub found : Found file at ins rs os k
   pub first : to ≡ fieldOf file (at + 4)
   pub second : a ≡ fieldOf file (at + 6)
+  pub room : at + 8 ≤ length file
 
 -- the kind is none of those that are tried before OUTPUT
 pub record Last (k : ℕ) : Type 0 where

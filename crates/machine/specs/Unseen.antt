@@ -19,8 +19,8 @@ use Rattle.programs.specs.declared.description.Instruction.the-variants.{Ones, 
 use Rattle.machine.specs.Meaning.{Gates, State, into, step, exec, step-long, exec-long}
 use Rattle.checker.specs.Checks.{Code, checkOf}
 use Rattle.machine.specs.Runs.{Ended, steps, carried, runOf, startOn, resumeOn}
-use Rattle.machine.specs.Calls.{Room, Enough, Sized, Entry, start, resume, Call, starting, cleared, lent, callOn, begins, from}
-use Rattle.machine.specs.Calls.{admitted, sized-cleared, sized-lent, equal-lengths, both-enough, calls-equal}
+use Rattle.machine.specs.Calls.{Room, Enough, Sized, Entry, start, resume, Call, starting, resuming, cleared, lent}
+use Rattle.machine.specs.Calls.{callOn, begins, from, admitted, sized-cleared, sized-from, equal-lengths, both-enough, calls-equal}
 use Rattle.laws.specs.Every.{OneOf}
 use Rattle.checker.specs.Accepting.{Fits, Ready, Sets, none, Sound}
 use Rattle.checker.specs.Encoding.{accepted-sound}
@@ -203,4 +203,4 @@ module _ {A : Type 0} (G : Gates A) (file : List ℕ) (c : Code) (ok : checkOf f
   whole-outputs inputs registers outputs registers′ outputs′ budget r q h =
       rw (resume-whole G file inputs registers outputs budget c ok r h, start-whole G file inputs registers′ outputs′ budget c ok q h)
       (ap gives (exec-forgets G (c .program) inputs (c .instructions) (accepted-sound file c ok) (lent G (c .program) registers outputs)
-      (cleared G (c .program)) (sized-lent G (c .program) inputs registers outputs r) (sized-cleared G (c .program))))
+      (cleared G (c .program)) (sized-from (resuming G file inputs registers outputs 0) (c .program) r) (sized-cleared G (c .program))))

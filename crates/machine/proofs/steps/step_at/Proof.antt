@@ -28,7 +28,13 @@ operands : (c : tie.After-field-at3) →
     let s = entry k .args in
     Operands (s .file .now) (s .at) (s .inputs .now) (s .registers .now) (s .outputs .now) (k .field-at .result)
     (first c .field-at2 .result) (c .field-at3 .result)
-operands c = record { found = found (kind (first c)); first = first c .field-at2 .ensures .0; second = c .field-at3 .ensures .0 }
+operands c =
+    record {
+      found = found (kind (first c));
+      first = first c .field-at2 .ensures .0;
+      second = c .field-at3 .ensures .0;
+      room = second-operand (found (kind (first c))) (c .before .before .if3 .left) (c .before .if4 .left);
+    }
 
 last : (c : tie.Else6) → Last (kind (first (c .before .before)) .field-at .result)
 last c =
@@ -133,10 +139,7 @@ slice-write-registers-3 : tie.Need-slice-write-registers-3
 slice-write-registers-3 c = does-input (operands (c .before .before)) (c .before .if5 .taken) .0 .0
 
 add-result-5 : tie.Need-add-result-5
-add-result-5 c =
-    let b = c .before .before in
-    let h = second-operand (found (kind (first b))) (b .before .before .if3 .left) (b .before .if4 .left) in
-    omega arith
+add-result-5 c = let h = operands (c .before .before) .room in omega arith
 
 returns-5 : tie.Need-returns-5
 returns-5 c = does-input (operands (c .before .before)) (c .before .if5 .taken) .1
@@ -154,10 +157,7 @@ slice-write-registers-4 : tie.Need-slice-write-registers-4
 slice-write-registers-4 c = does-not (operands (c .before .before .before)) (c .before .if6 .taken) .0 .0
 
 add-result-6 : tie.Need-add-result-6
-add-result-6 c =
-    let b = c .before .before .before in
-    let h = second-operand (found (kind (first b))) (b .before .before .if3 .left) (b .before .if4 .left) in
-    omega arith
+add-result-6 c = let h = operands (c .before .before .before) .room in omega arith
 
 returns-6 : tie.Need-returns-6
 returns-6 c = does-not (operands (c .before .before .before)) (c .before .if6 .taken) .1
@@ -175,10 +175,7 @@ slice-write-outputs : tie.Need-slice-write-outputs
 slice-write-outputs c = does-output (operands (c .before .before .before)) (last (c .before)) .0 .0
 
 add-result-7 : tie.Need-add-result-7
-add-result-7 c =
-    let b = c .before .before .before in
-    let h = second-operand (found (kind (first b))) (b .before .before .if3 .left) (b .before .if4 .left) in
-    omega arith
+add-result-7 c = let h = operands (c .before .before .before) .room in omega arith
 
 returns-7 : tie.Need-returns-7
 returns-7 c = does-output (operands (c .before .before .before)) (last (c .before)) .1
