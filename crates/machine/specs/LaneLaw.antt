@@ -60,16 +60,16 @@ lane j x = bitAt x j
 
 -- ---- what holds of the words before a run holds of those after
 module _ {A : Type 0} (G : Gates A) (P : A → Type 0) (c : Closed G P) (inputs : List A) (p : All G P inputs) where
-  kept-register : (s : State A) (r : ℕ) (x : A) → Kept G P s → P x → Kept G P (into G inputs r x s)
-  kept-register s r x k h = record { registers = all-set P (G .zeros) (s .registers) r x (k .registers) h; outputs = k .outputs }
+  kept-register : {s : State A} (r : ℕ) {x : A} → Kept G P s → P x → Kept G P (into G inputs r x s)
+  kept-register {s} r {x} k h = record { registers = all-set P (G .zeros) (s .registers) r x (k .registers) h; outputs = k .outputs }
 
   step-kept : (i : Instruction) (s : State A) → Kept G P s → Kept G P (step G inputs i s)
-  step-kept (Ones to) s k = kept-register s to _ k (c .ones)
-  step-kept (Zero to) s k = kept-register s to _ k (c .zeros)
-  step-kept (Input to n) s k = kept-register s to _ k (p n)
-  step-kept (Not to a) s k = kept-register s to _ k (c .inverse _ (k .registers a))
-  step-kept (And to a b) s k = kept-register s to _ k (c .both _ _ (k .registers a) (k .registers b))
-  step-kept (Or to a b) s k = kept-register s to _ k (c .either _ _ (k .registers a) (k .registers b))
+  step-kept (Ones to) s k = kept-register to k (c .ones)
+  step-kept (Zero to) s k = kept-register to k (c .zeros)
+  step-kept (Input to n) s k = kept-register to k (p n)
+  step-kept (Not to a) s k = kept-register to k (c .inverse _ (k .registers a))
+  step-kept (And to a b) s k = kept-register to k (c .both _ _ (k .registers a) (k .registers b))
+  step-kept (Or to a b) s k = kept-register to k (c .either _ _ (k .registers a) (k .registers b))
   step-kept (Output o a) s k =
       record { registers = k .registers; outputs = all-set P (G .zeros) (s .outputs) o _ (k .outputs) (k .registers a) }
 
@@ -83,20 +83,20 @@ module _ {A : Type 0} (G : Gates A) (P : A → Type 0) (c : Closed G P) (inputs 
     at-map : (xs : List A) (r : ℕ) → f (getD xs r (G .zeros)) ≡ getD (map f xs) r (H .zeros)
     at-map xs r = sym (List·getD-map f xs r (G .zeros)) ∙ ap (getD (map f xs) r) (m .zeros)
 
-    into-map : (s : State A) (r : ℕ) (x : A) (y : B) → f x ≡ y →
+    into-map : (s : State A) (r : ℕ) {x : A} {y : B} → f x ≡ y →
         mapState f (into G inputs r x s) ≡ into H (map f inputs) r y (mapState f s)
-    into-map s r x y e = rw (map-set f (s .registers) r x, e)
+    into-map s r {x} e = rw (map-set f (s .registers) r x, e)
 
     step-map : (i : Instruction) (s : State A) → Kept G P s → mapState f (step G inputs i s) ≡ step H (map f inputs) i (mapState f s)
-    step-map (Ones to) s k = into-map s to _ _ (m .ones)
-    step-map (Zero to) s k = into-map s to _ _ (m .zeros)
-    step-map (Input to n) s k = into-map s to _ _ (at-map inputs n)
-    step-map (Not to a) s k = into-map s to _ _ (m .inverse _ (k .registers a) ∙ ap (H .inverse) (at-map (s .registers) a))
+    step-map (Ones to) s k = into-map s to (m .ones)
+    step-map (Zero to) s k = into-map s to (m .zeros)
+    step-map (Input to n) s k = into-map s to (at-map inputs n)
+    step-map (Not to a) s k = into-map s to (m .inverse _ (k .registers a) ∙ ap (H .inverse) (at-map (s .registers) a))
     step-map (And to a b) s k =
-        into-map s to _ _
+        into-map s to
         (m .both _ _ (k .registers a) (k .registers b) ∙ ap₂ (H .both) (at-map (s .registers) a) (at-map (s .registers) b))
     step-map (Or to a b) s k =
-        into-map s to _ _
+        into-map s to
         (m .either _ _ (k .registers a) (k .registers b) ∙ ap₂ (H .either) (at-map (s .registers) a) (at-map (s .registers) b))
     step-map (Output o a) s k = rw (map-set f (s .outputs) o (getD (s .registers) a (G .zeros)), at-map (s .registers) a)
 

@@ -86,9 +86,9 @@ module _ {A : Type 0} (G : Gates A) (p : Program) where
         let l = step-long G inputs i s in
         record { of-registers = l .0 ∙ w .of-registers; of-outputs = l .1 ∙ w .of-outputs }
 
-    into-agree : (W O : ℕ → Type 0) (s t : State A) (to : ℕ) (x y : A) → to < p .registers → Sized p s → Sized p t → x ≡ y → Agree W O s t →
+    into-agree : {W O : ℕ → Type 0} {s t : State A} (to : ℕ) (x y : A) → to < p .registers → Sized p s → Sized p t → x ≡ y → Agree W O s t →
         Agree (λ r. OneOf (to ∷ []) r ⊎ W r) (λ o. OneOf [] o ⊎ O o) (into G inputs to x s) (into G inputs to y t)
-    into-agree W O s t to x y l w v e g =
+    into-agree {W} {O} {s} {t} to x y l w v e g =
         record {
           registers =
               set-agree W (s .registers) (t .registers) to x y (G .zeros) (omega (arith, w .of-registers)) (omega (arith, v .of-registers))
@@ -96,18 +96,18 @@ module _ {A : Type 0} (G : Gates A) (p : Program) where
           outputs = λ o q. ⊎-elim (λ (z : ⊥). absurd z) (λ (z : O o). g .outputs o z) q;
         }
 
-    step-agree : (W O : ℕ → Type 0) (i : Instruction) (s t : State A) → Fits p i → Each W (uses i .reads) → Sized p s → Sized p t →
+    step-agree : {W O : ℕ → Type 0} (i : Instruction) {s t : State A} → Fits p i → Each W (uses i .reads) → Sized p s → Sized p t →
         Agree W O s t →
         Agree (λ r. OneOf (uses i .writes) r ⊎ W r) (λ o. OneOf (uses i .sets) o ⊎ O o) (step G inputs i s) (step G inputs i t)
-    step-agree W O (Ones to) s t f e w v g = into-agree W O s t to _ _ (f .0 .0) w v refl g
-    step-agree W O (Zero to) s t f e w v g = into-agree W O s t to _ _ (f .0 .0) w v refl g
-    step-agree W O (Input to n) s t f e w v g = into-agree W O s t to _ _ (f .0 .0) w v refl g
-    step-agree W O (Not to a) s t f e w v g = into-agree W O s t to _ _ (f .0 .0) w v (ap (G .inverse) (g .registers a (e .0))) g
-    step-agree W O (And to a b) s t f e w v g =
-        into-agree W O s t to _ _ (f .0 .0) w v (ap₂ (G .both) (g .registers a (e .0)) (g .registers b (e .1 .0))) g
-    step-agree W O (Or to a b) s t f e w v g =
-        into-agree W O s t to _ _ (f .0 .0) w v (ap₂ (G .either) (g .registers a (e .0)) (g .registers b (e .1 .0))) g
-    step-agree W O (Output o a) s t f e w v g =
+    step-agree (Ones to) f e w v g = into-agree to _ _ (f .0 .0) w v refl g
+    step-agree (Zero to) f e w v g = into-agree to _ _ (f .0 .0) w v refl g
+    step-agree (Input to n) f e w v g = into-agree to _ _ (f .0 .0) w v refl g
+    step-agree (Not to a) f e w v g = into-agree to _ _ (f .0 .0) w v (ap (G .inverse) (g .registers a (e .0))) g
+    step-agree (And to a b) f e w v g =
+        into-agree to _ _ (f .0 .0) w v (ap₂ (G .both) (g .registers a (e .0)) (g .registers b (e .1 .0))) g
+    step-agree (Or to a b) f e w v g =
+        into-agree to _ _ (f .0 .0) w v (ap₂ (G .either) (g .registers a (e .0)) (g .registers b (e .1 .0))) g
+    step-agree {W} {O} (Output o a) {s} {t} f e w v g =
         record {
           registers = λ r q. ⊎-elim (λ (z : ⊥). absurd z) (λ (z : W r). g .registers r z) q;
           outputs =
@@ -116,15 +116,13 @@ module _ {A : Type 0} (G : Gates A) (p : Program) where
               (g .registers a (e .0)) (g .outputs);
         }
 
-    exec-agree : (is : List Instruction) (W O : ℕ → Type 0) (s t : State A) → Each (Fits p) is → Ready W is none → Sized p s → Sized p t →
+    exec-agree : (is : List Instruction) {W O : ℕ → Type 0} {s t : State A} → Each (Fits p) is → Ready W is none → Sized p s → Sized p t →
         Agree W O s t → (o : ℕ) → Sets o is ⊎ O o →
         getD (exec G inputs is s .outputs) o (G .zeros) ≡ getD (exec G inputs is t .outputs) o (G .zeros)
     unfolding exec
-    exec-agree [] W O s t f e w v g o q = ⊎-elim (λ (z : ⊥). absurd z) (λ (z : O o). g .outputs o z) q
-    exec-agree (i ∷ is) W O s t f e w v g o q =
-        exec-agree is (λ r. OneOf (uses i .writes) r ⊎ W r) (λ o. OneOf (uses i .sets) o ⊎ O o) (step G inputs i s) (step G inputs i t)
-        (f .1)
-        (e .1) (sized-step i s w) (sized-step i t v) (step-agree W O i s t (f .0) (e .0) w v g) o
+    exec-agree [] {W} {O} f e w v g o q = ⊎-elim (λ (z : ⊥). absurd z) (λ (z : O o). g .outputs o z) q
+    exec-agree (i ∷ is) {W} {O} {s} {t} f e w v g o q =
+        exec-agree is (f .1) (e .1) (sized-step i s w) (sized-step i t v) (step-agree i (f .0) (e .0) w v g) o
         (⊎-elim (λ (z : OneOf (uses i .sets) o ⊎ Sets o is). ⊎-elim (λ (x : OneOf (uses i .sets) o). inr (inl x)) inl z)
         (λ (z : O o). inr (inr z)) q)
 
@@ -135,7 +133,7 @@ module _ {A : Type 0} (G : Gates A) (p : Program) where
         let ls : length (exec G inputs is s .outputs) ≡ p .outputs = exec-long G inputs is s .1 ∙ w .of-outputs in
         let lt : length (exec G inputs is t .outputs) ≡ p .outputs = exec-long G inputs is t .1 ∙ v .of-outputs in
         ext-getD (G .zeros) (exec G inputs is s .outputs) (exec G inputs is t .outputs) (ls ∙ sym lt)
-        (λ o l. exec-agree is none none s t (sound .in-range) (sound .written) w v
+        (λ o l. exec-agree is {W = none} {O = none} (sound .in-range) (sound .written) w v
         (record { registers = λ r z. absurd z; outputs = λ o z. absurd z }) o (inl (sound .all-set o (omega (arith, ls, l)))))
 
 -- ---- the same of starts and resumes of an accepted file
