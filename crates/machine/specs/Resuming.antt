@@ -142,11 +142,6 @@ module _ {A : Type 0} (G : Gates A) (is : List Instruction) (inputs : List A) wh
       let all : steps budget 0 (length is) ≡ length is = omega arith in
       rw (e, all, zero-add (length is), eq-eqb (length is) (length is) refl, take-all (length is) is (omega arith))
 
-  run-before-end : (position budget : ℕ) (s : State A) → position ≤ length is →
-      runOf G is inputs position budget s .answer .position ≤ length is
-  unfolding runOf
-  run-before-end position budget s h = omega arith
-
 pub few-instructions : (file : List ℕ) (c : Code) → checkOf file ≡ gives c → length (c .instructions) ≤ most-budget
 few-instructions file c e =
     let s = accepted-sound file c e in
@@ -233,10 +228,10 @@ module _ {A : Type 0} (k : Call A) where
 
     runs-on : (registers′ outputs′ : List A) → Holds (first .state) registers′ outputs′ →
         resumeOn (k .gates) (k .file) (k .inputs) registers′ outputs′ (first .answer .position) b ≡ gives second
+    unfolding runOf
     runs-on registers′ outputs′ held =
         resume-held (k .gates) (k .file) (k .inputs) c (w .accepted) (w .room .for-inputs) (first .state) registers′ outputs′
-        (first .answer .position) b sized-first held
-        (run-before-end (k .gates) (c .instructions) (k .inputs) (begins k) a (from k (c .program)) (w .before-end))
+        (first .answer .position) b sized-first held (omega (arith, w .before-end))
 
     -- on any buffers that hold what the call left
     goes-on : (e : Ended A) → first ≡ e → (registers′ outputs′ : List A) → Holds (e .state) registers′ outputs′ →

@@ -169,11 +169,8 @@ pub record Past (file : List ℕ) (from n k at : ℕ) : Type 0 where
   pub formed : (nr ni nq : ℕ) → Formed n nr ni nq (drop from file) → Formed (n - k) nr ni nq (drop at file)
   pub rest : readOf (n - k) (drop at file) ≡ drop k (readOf n (drop from file))
 
-drop-tail : {A : Type 0} (k : ℕ) (x : A) (xs ys : List A) → x ∷ xs ≡ drop k ys → xs ≡ drop (k + 1) ys
-drop-tail k x xs ys e = ap (drop 1) e ∙ drop-drop 1 k ys
-
-pub past-none : (file : List ℕ) (from n : ℕ) → Past file from n 0 from
-past-none file from n =
+pub past-none : {file : List ℕ} {from n : ℕ} → Past file from n 0 from
+past-none {n = n} =
     let z : n - 0 ≡ n = omega arith in
     record { formed = λ nr ni nq f. rw z f; rest = rw z }
 
@@ -198,7 +195,7 @@ module _ {file : List ℕ} {from n k at : ℕ} (g : Past file from n k at) where
         (record {
           formed = λ nr ni nq f. formed-next m nr ni nq file at i reads (rw q at (g .formed nr ni nq f));
           rest = rw (← drop-drop (lengthOf i) at file)
-              (drop-tail k i _ _ (sym (read-first m (drop at file) i reads) ∙ rw q at (g .rest)));
+              (ap (drop 1) (sym (read-first m (drop at file) i reads) ∙ rw q at (g .rest)) ∙ drop-drop 1 k _);
         })
 
   pub past-done : {position : ℕ} → k ≤ position → position ≤ k → Past file from n position at

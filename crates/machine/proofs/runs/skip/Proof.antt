@@ -14,7 +14,7 @@ abbrev μ-loop : tie.MeasureT-loop
 μ-loop file count position at₀ k₀ at k = position - k
 
 loop-holds : tie.Need-loop-holds Inv-loop μ-loop
-loop-holds c = (past-none _ _ _, search needs)
+loop-holds c = (past-none, search needs)
 
 field-at-requires : tie.Need-field-at-requires Inv-loop μ-loop
 field-at-requires c κs =
