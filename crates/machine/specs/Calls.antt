@@ -140,14 +140,6 @@ module _ {A : Type 0} (G : Gates A) where
           room-gives (c .program) inputs registers outputs (a .room),
         )
 
-    -- where the words are enough, they play no part
-    admitted-enough : (position : ℕ) → Enough file inputs registers outputs →
-        admitted G file inputs registers outputs position ≡
-        (checkOf file >>= (λ c. refuse 12 (ltb (length (c .instructions)) position) >> gives c))
-    unfolding admitted
-    admitted-enough position enough =
-        bind-eq (checkOf file) _ _ (λ c e. rw (room-gives (c .program) inputs registers outputs (enough c e)))
-
     -- ---- a start and a resume are runs of the admitted program
     pub start-is : (budget : ℕ) → startOn G file inputs registers outputs budget ≡
         mapped (callRun (starting G file inputs registers outputs) budget) (admitted G file inputs registers outputs 0)
@@ -241,9 +233,13 @@ module _ {A B : Type 0} (G : Gates A) (H : Gates B) (file : List ℕ) (inputs re
     (inputs′ registers′ outputs′ : List B) where
   pub both-enough : Enough file inputs registers outputs → Enough file inputs′ registers′ outputs′ → (position : ℕ) →
       admitted G file inputs registers outputs position ≡ admitted H file inputs′ registers′ outputs′ position
+  unfolding admitted
   both-enough enough enough′ position =
-      admitted-enough G file inputs registers outputs position enough ∙
-      sym (admitted-enough H file inputs′ registers′ outputs′ position enough′)
+      bind-eq (checkOf file) _ _
+      (λ c e. rw (
+        room-gives G (c .program) inputs registers outputs (enough c e),
+        room-gives H (c .program) inputs′ registers′ outputs′ (enough′ c e),
+      ))
 
   pub equal-lengths : length inputs ≡ length inputs′ → length registers ≡ length registers′ → length outputs ≡ length outputs′ →
       (position : ℕ) → admitted G file inputs registers outputs position ≡ admitted H file inputs′ registers′ outputs′ position
