@@ -1,6 +1,6 @@
 -- The ways of a start and a resume, in the words of their contracts, and what an accepted program says of its bytes. Assumes nothing.
 use Prim.Native.Nat.{ℕ, zero, suc, _≤_, _<_}
-use mathlib.Core.Path.{_≡_, refl, sym, ap, _∙_, subst}
+use mathlib.Core.Path.{_≡_, refl, sym, ap, _∙_}
 use mathlib.Core.Bool.{Bool, true, false, _||_}
 use mathlib.Core.List.{List, _∷_, _++_}
 use native.Mathlib.Omega.{arith}
@@ -139,11 +139,11 @@ module _ (k : Call ℕ) (budget : ℕ) where
 
 -- ---- a run
 -- what a run leaves, as the definition says it
-run-is : (file : List ℕ) (p : Program) (a : Accepted file p) (inputs rs os : List ℕ) (position budget : ℕ) (r : Run) (rs′ os′ : List ℕ) →
+run-is : {file : List ℕ} {p : Program} (a : Accepted file p) {inputs rs os : List ℕ} {position budget : ℕ} {r : Run} {rs′ os′ : List ℕ} →
     Ends file (p .count) inputs rs os position budget r rs′ os′ →
     runOf wordGates (a .code .instructions) inputs position budget (state rs os) ≡ record { answer = r; state = state rs′ os′ }
 unfolding runOf
-run-is file p a inputs rs os position budget r rs′ os′ d = rw (d .answer, d .left, a .reads, ← a .counted)
+run-is a d = rw (d .answer, d .left, a .reads, ← a .counted)
 
 -- whether a call clears what is lent
 abbrev pub clears : Call ℕ → Bool
@@ -193,7 +193,7 @@ module _ {k : Call ℕ} {p : Program} (f : Fits k p) where
       end = record { answer = r; state = state rs′ os′ }
 
       ran : runOf (k .gates) (a .code .instructions) (k .inputs) (begins k) budget (from k p) ≡ end
-      ran = rw (← prepared-from g, g) (run-is (k .file) p a (k .inputs) _ _ (begins k) budget r rs′ os′ d)
+      ran = rw (← prepared-from g, g) (run-is a d)
 
       given : callOn k budget ≡ gives end
       given =
@@ -203,5 +203,5 @@ module _ {k : Call ℕ} {p : Program} (f : Fits k p) where
 
       sized : Sized p (end .state)
       sized =
-          subst (λ (x : Ended ℕ). Sized p (x .state)) ran
+          rw ran at
           (sized-run (k .gates) p (a .code .instructions) (k .inputs) (begins k) budget (from k p) (sized-from k p (f .room)))

@@ -9,8 +9,7 @@ use lib.Dec.{ltb}
 use lib.ListN.{length, take, replicate, length-replicate}
 use lib.Seq.{length-take-le}
 use Rattle.laws.specs.Outcome.{Outcome, gives, refuse, _>>_, _>>=_, mapped, passed, bound, gives-inj, mapped-gives}
-use Rattle.laws.specs.Outcome.{then-gives, bind-eq, mapped-bind, mapped-then, mapped-mapped}
-use Rattle.laws.specs.Outcome.{mapped-id, mapped-same}
+use Rattle.laws.specs.Outcome.{then-gives, bind-eq, mapped-bind, mapped-then, mapped-mapped, mapped-id, mapped-same}
 use Rattle.programs.specs.declared.description.Program.{Program}
 use Rattle.programs.specs.declared.description.Instruction.{Instruction}
 use Rattle.machine.specs.Meaning.{Gates, State, exec-long}

@@ -8,8 +8,7 @@ use lib.Bits.{and-lt, or-lt}
 use lib.ListN.{length, getD, length-map, List·getD-map}
 use Rattle.laws.specs.Words.{bitAt, bitAt-zero, bitAt-and, bitAt-or, bitAt-not}
 use Rattle.laws.specs.Lists.{all-set, all-take, all-replicate, map-set, map-take, map-replicate}
-use Rattle.laws.specs.Outcome.{mapped-id}
-use Rattle.laws.specs.Outcome.{gives, mapped}
+use Rattle.laws.specs.Outcome.{gives, mapped, mapped-id}
 use Rattle.programs.specs.declared.description.Program.{Program}
 use Rattle.programs.specs.declared.description.Instruction.{Instruction}
 use Rattle.programs.specs.declared.description.Instruction.the-variants.{Ones, Zero, Input, Not, And, Or, Output}

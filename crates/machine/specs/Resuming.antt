@@ -9,8 +9,7 @@ use borrow.Author.Tests.{eq-eqb}
 use lib.ListN.{length, take, drop, length-take, length-drop}
 use lib.Seq.{take-add, take-all, drop-drop}
 use Rattle.laws.specs.Lay.{lay, take-lay, lay-again}
-use Rattle.laws.specs.Outcome.{Outcome, refused, gives, _>>=_, mapped, laid, gives-inj, no-result, bind-after, bind-gives}
-use Rattle.laws.specs.Outcome.{bind-mapped}
+use Rattle.laws.specs.Outcome.{Outcome, refused, gives, _>>=_, mapped, laid, gives-inj, no-result, bind-after, bind-gives, bind-mapped}
 use Rattle.programs.specs.Reading.{within-means}
 use Rattle.programs.specs.declared.description.Instruction.{Instruction}
 use Rattle.machine.specs.Meaning.{Gates, State, exec, exec-append}
