@@ -158,10 +158,10 @@ module _ {A : Type 0} where
 
 module _ {A : Type 0} (G : Gates A) (file : List ℕ) (inputs : List A) where
   -- a resume on buffers that hold a state runs on from that state
-  resume-held : (c : Code) → checkOf file ≡ gives c → c .program .inputs ≤ length inputs → (s : State A) (registers outputs : List A)
+  resume-held : {c : Code} → checkOf file ≡ gives c → c .program .inputs ≤ length inputs → {s : State A} {registers outputs : List A}
       (position budget : ℕ) → Sized (c .program) s → Holds s registers outputs → position ≤ length (c .instructions) →
       resumeOn G file inputs registers outputs position budget ≡ gives (runOf G (c .instructions) inputs position budget s)
-  resume-held c ok i s registers outputs position budget z h l =
+  resume-held {c} ok i {s} {registers} {outputs} position budget z h l =
       call-gives (resuming G file inputs registers outputs position) budget c
       (record {
         accepted = ok;
@@ -225,18 +225,18 @@ module _ {A : Type 0} (k : Call A) where
         sized-run (k .gates) (c .program) (c .instructions) (k .inputs) (begins k) a (from k (c .program))
         (sized-from k (c .program) (w .room))
 
-    runs-on : (registers′ outputs′ : List A) → Holds (first .state) registers′ outputs′ →
+    runs-on : {registers′ outputs′ : List A} → Holds (first .state) registers′ outputs′ →
         resumeOn (k .gates) (k .file) (k .inputs) registers′ outputs′ (first .answer .position) b ≡ gives second
     unfolding runOf
-    runs-on registers′ outputs′ held =
-        resume-held (k .gates) (k .file) (k .inputs) c (w .accepted) (w .room .for-inputs) (first .state) registers′ outputs′
-        (first .answer .position) b sized-first held (omega (arith, w .before-end))
+    runs-on held =
+        resume-held (k .gates) (k .file) (k .inputs) (w .accepted) (w .room .for-inputs) (first .answer .position) b sized-first held
+        (omega (arith, w .before-end))
 
     -- on any buffers that hold what the call left
-    goes-on : (e : Ended A) → first ≡ e → (registers′ outputs′ : List A) → Holds (e .state) registers′ outputs′ →
+    goes-on : {e : Ended A} → first ≡ e → {registers′ outputs′ : List A} → Holds (e .state) registers′ outputs′ →
         goneOn (k .gates) (k .file) (k .inputs) registers′ outputs′ b e ≡ callOn k (together a b)
-    goes-on e q registers′ outputs′ held =
-        rw (← q, call-gives k (together a b) c w, runs-on registers′ outputs′ (rw (← q) at held)) (ap gives one-run)
+    goes-on q held =
+        rw (← q, call-gives k (together a b) c w, runs-on (rw (← q) at held)) (ap gives one-run)
 
     -- and on the buffers of the call itself
     left-again : again (k .gates) (k .file) (k .inputs) (leaves (k .registers) (k .outputs) first) b ≡
@@ -246,7 +246,7 @@ module _ {A : Type 0} (k : Call A) where
         let s = first .state in
         let y = sized-run (k .gates) (c .program) (c .instructions) (k .inputs) (first .answer .position) b s x in
         rw (
-          runs-on (lay (s .registers) (k .registers)) (lay (s .outputs) (k .outputs)) (holds-laid s (k .registers) (k .outputs)),
+          runs-on (holds-laid s (k .registers) (k .outputs)),
           ← one-run,
           lay-again (s .registers) (second .state .registers) (k .registers) (x .of-registers ∙ sym (y .of-registers)),
           lay-again (s .outputs) (second .state .outputs) (k .outputs) (x .of-outputs ∙ sym (y .of-outputs)),
@@ -258,7 +258,7 @@ module _ {A : Type 0} (k : Call A) where
       goneOn (k .gates) (k .file) (k .inputs) registers′ outputs′ b e ≡ callOn k (together a b)
   call-continued registers′ outputs′ a b e q held =
       let r = call-ran k a e q in
-      goes-on a b (r .0) (r .1) e (r .2) registers′ outputs′ held
+      goes-on a b (r .0) (r .1) (r .2) held
 
   -- the same of all that the caller holds after the two calls, and of refusals
   call-again : (a b : ℕ) → (called a >>= (λ l. again (k .gates) (k .file) (k .inputs) l b)) ≡ called (together a b)
