@@ -1,31 +1,29 @@
 -- The ways of a start and a resume, in the words of their contracts, and what an accepted program says of its bytes. Assumes nothing.
 use Prim.Native.Nat.{ℕ, zero, suc, _≤_, _<_}
-use mathlib.Core.Path.{_≡_, refl, sym, ap, _∙_, subst}
-use mathlib.Core.Bool.{Bool, true, false, not, _||_}
-use mathlib.Core.List.{List, [], _∷_, _++_}
+use mathlib.Core.Path.{_≡_, refl, sym, ap, _∙_}
+use mathlib.Core.Bool.{Bool, true, false, _||_}
+use mathlib.Core.List.{List, _∷_, _++_}
 use native.Mathlib.Omega.{arith}
-use borrow.Author.Tests.{le-ltb, lt-ltb, ltb-false}
+use borrow.Author.Tests.{le-ltb, lt-ltb}
 use lib.Dec.{ltb}
 use lib.ListN.{length, take, drop, length-take}
 use lib.Seq.{length-take-le}
-use Rattle.laws.specs.Tests.{neither}
-use Rattle.laws.specs.Sums.{any}
 use Rattle.laws.specs.Lay.{lay, lay-nothing}
-use Rattle.laws.specs.Outcome.{Outcome, refused, gives, refuse, _>>_, passed, bound, gives-inj, mapped, laid, mapped-gives}
-use Rattle.laws.specs.Outcome.{mapped-refused}
+use Rattle.laws.specs.Outcome.{Outcome, refused, gives, refuse, _>>_, mapped, laid, mapped-gives, mapped-refused}
 use Rattle.programs.specs.Instructions.{uses, lengthOf}
 use Rattle.programs.specs.Header.{header-length}
 use Rattle.programs.specs.declared.description.Program.{Program}
 use Rattle.programs.specs.declared.description.Instruction.{Instruction}
 use Rattle.machine.specs.Meaning.{wordGates}
-use Rattle.checker.specs.Checks.{Code, also, instructionOf, codeOf, nothing, checkOf}
+use Rattle.checker.specs.Checks.{Code, also, codeOf, nothing, checkOf}
 use Rattle.machine.specs.Runs.{Ended, runOf, roomFor}
 use Rattle.machine.specs.Calls.{Room, Sized, Entry, start, resume, onEntry, Call, callOn, begins, from, admits, call-is, call-gives}
-use Rattle.machine.specs.Calls.{cleared, lent, admitted, sized-from, sized-run}
+use Rattle.machine.specs.Calls.{cleared, lent, admitted, room-says, sized-from, sized-run}
 use Rattle.checker.specs.Standing.{readOf, Formed}
 use Rattle.machine.specs.Steps.{state}
 use Rattle.machine.specs.Turns.{Ends, prepared}
-use Rattle.checker.specs.Operands.{range-means, range-wider, instruction-means}
+use Rattle.checker.specs.Operands.{range-means, range-wider}
+use Rattle.checker.specs.Encoding.{code-says, code-ends, accepted-sound}
 use Rattle.checker.specs.Checking.{check-says}
 use Rattle.machine.specs.declared.runs.Run.{Run}
 
@@ -62,24 +60,18 @@ code-stands : (p : Program) (n : ℕ) (written set : ℕ → Bool) (bytes : List
     codeOf n p written set bytes ≡ gives is →
     ((inputs registers outputs : List ℕ) → Room p inputs registers outputs →
     Formed n (length registers) (length inputs) (length outputs) bytes) ×
-    ((readOf n bytes ≡ is) × (length is ≡ n))
-unfolding codeOf Formed readOf
-code-stands p zero written set bytes is e =
-    let c1 = passed 4 (ltb 0 (length bytes)) (refuse 10 (any (p .outputs) (λ o. not (set o))) >> gives []) is e in
-    let c2 = passed 10 (any (p .outputs) (λ o. not (set o))) (gives []) is (c1 .1) in
-    (λ inputs registers outputs r. tt, (gives-inj (c2 .1), ap length (sym (gives-inj (c2 .1)))))
+    (readOf n bytes ≡ is)
+unfolding Formed readOf
+code-stands p zero written set bytes is e = (λ inputs registers outputs r. tt, sym (code-ends p written set bytes is e .1))
 code-stands p (suc n) written set bytes is e =
-    let c1 = bound (instructionOf p written bytes) _ is e in
-    let i = c1 .0 in
-    let c2 = bound (codeOf n p (also written (uses i .writes)) (also set (uses i .sets)) (drop (lengthOf i) bytes)) _ is (c1 .2) in
-    let m = instruction-means p written bytes i (c1 .1) in
-    let h = code-stands p n (also written (uses i .writes)) (also set (uses i .sets)) (drop (lengthOf i) bytes) (c2 .0) (c2 .1) in
-    let all : i ∷ c2 .0 ≡ is = gives-inj (c2 .2) in (
-      λ inputs registers outputs r. rw (m .0) (
-        range-wider _ _ _ _ _ _ i (r .for-registers) (r .for-inputs) (r .for-outputs) (range-means p i (m .1)),
+    let c = code-says n p written set bytes is e in
+    let i = c .first in
+    let h = code-stands p n (also written (uses i .writes)) (also set (uses i .sets)) (drop (lengthOf i) bytes) (c .rest) (c .behind) in (
+      λ inputs registers outputs r. rw (c .read) (
+        range-wider _ _ _ _ _ _ i (r .for-registers) (r .for-inputs) (r .for-outputs) (range-means p i (c .in-range)),
         h .0 inputs registers outputs r,
       ),
-      (rw (m .0) (ap (λ (js : List Instruction). i ∷ js) (h .1 .0) ∙ all), ap length (sym all) ∙ ap suc (h .1 .1)),
+      rw (c .read) (ap (λ (js : List Instruction). i ∷ js) (h .1) ∙ sym (c .split)),
     )
 
 pub accepted-file : (file : List ℕ) (p : Program) → gives p ≡ mapped (λ c. c .program) (checkOf file) → Accepted file p
@@ -87,7 +79,8 @@ accepted-file file p e =
     let m = mapped-gives (λ (c : Code). c .program) (checkOf file) p e in
     let s = rw (m .2) at (check-says file (m .0) (m .1) .1) in
     let h = code-stands p (p .count) nothing nothing (drop header-length file) (m .0 .instructions) s in
-    record { code = m .0; checks = m .1; header = m .2; formed = h .0; reads = h .1 .0; counted = h .1 .1 }
+    let n = sym (rw (m .2) at (accepted-sound file (m .0) (m .1) .counted)) in
+    record { code = m .0; checks = m .1; header = m .2; formed = h .0; reads = h .1; counted = n }
 
 -- ---- room
 either : (a b c : Bool) → (refuse 13 a >> (refuse 13 b >> (refuse 13 c >> gives tt))) ≡ refuse 13 (a || b || c)
@@ -96,22 +89,15 @@ either false true c = refl
 either false false true = refl
 either false false false = refl
 
-room-is : (k : Call ℕ) (p : Program) → roomFor (k .gates) p (k .inputs) (k .registers) (k .outputs) ≡
-    refuse 13 (lacking p (k .inputs) (k .registers) (k .outputs))
-room-is k p =
-    either (ltb (length (k .inputs)) (p .inputs)) (ltb (length (k .registers)) (p .registers)) (ltb (length (k .outputs)) (p .outputs))
+room-is : (p : Program) (inputs registers outputs : List ℕ) →
+    roomFor wordGates p inputs registers outputs ≡ refuse 13 (lacking p inputs registers outputs)
+room-is p inputs registers outputs =
+    either (ltb (length inputs) (p .inputs)) (ltb (length registers) (p .registers)) (ltb (length outputs) (p .outputs))
 
 pub room-means : (p : Program) (inputs registers outputs : List ℕ) (b : Bool) → b ≡ lacking p inputs registers outputs → b ≡ false →
     Room p inputs registers outputs
 room-means p inputs registers outputs b e q =
-    let s =
-    neither (ltb (length inputs) (p .inputs) || ltb (length registers) (p .registers)) (ltb (length outputs) (p .outputs)) (sym e ∙ q) in
-    let t = neither (ltb (length inputs) (p .inputs)) (ltb (length registers) (p .registers)) (s .0) in
-    record {
-      for-inputs = ltb-false (length inputs) (p .inputs) (t .0);
-      for-registers = ltb-false (length registers) (p .registers) (t .1);
-      for-outputs = ltb-false (length outputs) (p .outputs) (s .1);
-    }
+    room-says wordGates p inputs registers outputs (room-is p inputs registers outputs ∙ rw (← e, q))
 
 -- the parts that are lent
 pub part-long : (n : ℕ) (ws : List ℕ) → n ≤ length ws → n ≡ length (take n ws)
@@ -142,15 +128,22 @@ module _ (k : Call ℕ) (budget : ℕ) where
     call-short l b is-b t =
         let a = accepted-file (k .file) p e in
         refuses 13
-        (rw (a .checks, le-ltb (length (a .code .instructions)) (begins k) (omega (arith, a .counted)), a .header, room-is k p, ← is-b, t))
+        (rw (
+          a .checks,
+          le-ltb (length (a .code .instructions)) (begins k) (omega (arith, a .counted)),
+          a .header,
+          room-is p (k .inputs) (k .registers) (k .outputs),
+          ← is-b,
+          t,
+        ))
 
 -- ---- a run
 -- what a run leaves, as the definition says it
-run-is : (file : List ℕ) (p : Program) (a : Accepted file p) (inputs rs os : List ℕ) (position budget : ℕ) (r : Run) (rs′ os′ : List ℕ) →
+run-is : {file : List ℕ} {p : Program} (a : Accepted file p) {inputs rs os : List ℕ} {position budget : ℕ} {r : Run} {rs′ os′ : List ℕ} →
     Ends file (p .count) inputs rs os position budget r rs′ os′ →
     runOf wordGates (a .code .instructions) inputs position budget (state rs os) ≡ record { answer = r; state = state rs′ os′ }
 unfolding runOf
-run-is file p a inputs rs os position budget r rs′ os′ d = rw (d .answer, d .left, a .reads, ← a .counted)
+run-is a d = rw (d .answer, d .left, a .reads, ← a .counted)
 
 -- whether a call clears what is lent
 abbrev pub clears : Call ℕ → Bool
@@ -200,7 +193,7 @@ module _ {k : Call ℕ} {p : Program} (f : Fits k p) where
       end = record { answer = r; state = state rs′ os′ }
 
       ran : runOf (k .gates) (a .code .instructions) (k .inputs) (begins k) budget (from k p) ≡ end
-      ran = rw (← prepared-from g, g) (run-is (k .file) p a (k .inputs) _ _ (begins k) budget r rs′ os′ d)
+      ran = rw (← prepared-from g, g) (run-is a d)
 
       given : callOn k budget ≡ gives end
       given =
@@ -210,5 +203,5 @@ module _ {k : Call ℕ} {p : Program} (f : Fits k p) where
 
       sized : Sized p (end .state)
       sized =
-          subst (λ (x : Ended ℕ). Sized p (x .state)) ran
+          rw ran at
           (sized-run (k .gates) p (a .code .instructions) (k .inputs) (begins k) budget (from k p) (sized-from k p (f .room)))

@@ -9,8 +9,7 @@ use lib.Dec.{ltb}
 use lib.ListN.{length, take, replicate, length-replicate}
 use lib.Seq.{length-take-le}
 use Rattle.laws.specs.Outcome.{Outcome, gives, refuse, _>>_, _>>=_, mapped, passed, bound, gives-inj, mapped-gives}
-use Rattle.laws.specs.Outcome.{then-gives, bind-eq, mapped-bind, mapped-then, mapped-mapped}
-use Rattle.laws.specs.Outcome.{mapped-id, mapped-same}
+use Rattle.laws.specs.Outcome.{then-gives, bind-eq, mapped-bind, mapped-then, mapped-mapped, mapped-id, mapped-same}
 use Rattle.programs.specs.declared.description.Program.{Program}
 use Rattle.programs.specs.declared.description.Instruction.{Instruction}
 use Rattle.machine.specs.Meaning.{Gates, State, exec-long}
@@ -130,21 +129,6 @@ module _ {A : Type 0} (G : Gates A) where
       }
 
   module _ (file : List ℕ) (inputs registers outputs : List A) where
-    pub admitted-says : (position : ℕ) (c : Code) → admitted G file inputs registers outputs position ≡ gives c →
-        Runnable file inputs registers outputs position c
-    unfolding admitted
-    admitted-says position c e =
-        let c1 = bound (checkOf file) _ c e in
-        let n : Code = c1 .0 in
-        let c2 = passed 12 (ltb (length (n .instructions)) position) _ c (c1 .2) in
-        let c3 = then-gives (roomFor G (n .program) inputs registers outputs) (gives n) c (c2 .1) in
-        rw (← gives-inj (c3 .1))
-        (record {
-          accepted = c1 .1;
-          before-end = ltb-false (length (n .instructions)) position (c2 .0);
-          room = room-says (n .program) inputs registers outputs (c3 .0);
-        })
-
     pub admitted-gives : (position : ℕ) (c : Code) → Runnable file inputs registers outputs position c →
         admitted G file inputs registers outputs position ≡ gives c
     unfolding admitted
@@ -154,14 +138,6 @@ module _ {A : Type 0} (G : Gates A) where
           le-ltb (length (c .instructions)) position (a .before-end),
           room-gives (c .program) inputs registers outputs (a .room),
         )
-
-    -- where the words are enough, they play no part
-    admitted-enough : (position : ℕ) → Enough file inputs registers outputs →
-        admitted G file inputs registers outputs position ≡
-        (checkOf file >>= (λ c. refuse 12 (ltb (length (c .instructions)) position) >> gives c))
-    unfolding admitted
-    admitted-enough position enough =
-        bind-eq (checkOf file) _ _ (λ c e. rw (room-gives (c .program) inputs registers outputs (enough c e)))
 
     -- ---- a start and a resume are runs of the admitted program
     pub start-is : (budget : ℕ) → startOn G file inputs registers outputs budget ≡
@@ -173,33 +149,21 @@ module _ {A : Type 0} (G : Gates A) where
         (λ c. rw (le-ltb (length (c .instructions)) 0 (omega arith))
         (mapped-then (roomFor G (c .program) inputs registers outputs) _ _ run refl))
 
-    pub resume-is : (position budget : ℕ) → resumeOn G file inputs registers outputs position budget ≡
-        mapped (callRun (resuming G file inputs registers outputs position) budget) (admitted G file inputs registers outputs position)
+    entry-is : (e : Entry) (budget : ℕ) →
+        let k : Call A = record { gates = G; file = file; inputs = inputs; registers = registers; outputs = outputs; entry = e } in
+        callOn k budget ≡ mapped (callRun k budget) (admits k)
     unfolding resumeOn admitted
-    resume-is position budget =
+    entry-is start budget = start-is budget
+    entry-is (resume position) budget =
         let run : Code → Ended A = callRun (resuming G file inputs registers outputs position) budget in
         mapped-bind (checkOf file) _ _ run
         (λ c. mapped-then (refuse 12 (ltb (length (c .instructions)) position)) _ _ run
         (mapped-then (roomFor G (c .program) inputs registers outputs) _ _ run refl))
 
-    entry-is : (e : Entry) (budget : ℕ) →
-        let k : Call A = record { gates = G; file = file; inputs = inputs; registers = registers; outputs = outputs; entry = e } in
-        callOn k budget ≡ mapped (callRun k budget) (admits k)
-    entry-is start budget = start-is budget
-    entry-is (resume position) budget = resume-is position budget
-
   -- ---- a call's words are as many as the header says, before it and after
   pub sized-cleared : (p : Program) → Sized p (cleared G p)
   sized-cleared p =
       record { of-registers = length-replicate (p .registers) (G .zeros); of-outputs = length-replicate (p .outputs) (G .zeros) }
-
-  pub sized-lent : (p : Program) (inputs registers outputs : List A) → Room p inputs registers outputs →
-      Sized p (lent G p registers outputs)
-  sized-lent p inputs registers outputs r =
-      record {
-        of-registers = length-take-le (p .registers) registers (r .for-registers);
-        of-outputs = length-take-le (p .outputs) outputs (r .for-outputs);
-      }
 
   pub sized-run : (p : Program) (is : List Instruction) (inputs : List A) (position budget : ℕ) (s : State A) → Sized p s →
       Sized p (runOf G is inputs position budget s .state)
@@ -218,7 +182,18 @@ module _ {A : Type 0} (k : Call A) where
   call-part budget f = rw (call-is budget) (mapped-mapped (callRun k budget) f _ (admits k) (λ c. refl))
 
   pub admits-says : (c : Code) → admits k ≡ gives c → MayRun k c
-  admits-says = admitted-says (k .gates) (k .file) (k .inputs) (k .registers) (k .outputs) (begins k)
+  unfolding admitted
+  admits-says c e =
+      let c1 = bound (checkOf (k .file)) _ c e in
+      let n : Code = c1 .0 in
+      let c2 = passed 12 (ltb (length (n .instructions)) (begins k)) _ c (c1 .2) in
+      let c3 = then-gives (roomFor (k .gates) (n .program) (k .inputs) (k .registers) (k .outputs)) (gives n) c (c2 .1) in
+      rw (← gives-inj (c3 .1))
+      (record {
+        accepted = c1 .1;
+        before-end = ltb-false (length (n .instructions)) (begins k) (c2 .0);
+        room = room-says (k .gates) (n .program) (k .inputs) (k .registers) (k .outputs) (c3 .0);
+      })
 
   -- so a call that may run its program gives that run, and one that gives a result has run
   pub call-gives : (budget : ℕ) (c : Code) → MayRun k c → callOn k budget ≡ gives (callRun k budget c)
@@ -235,7 +210,11 @@ module _ {A : Type 0} (k : Call A) where
     where
       by : (e : Entry) → Sized p (onEntry e (cleared (k .gates) p) (λ position. lent (k .gates) p (k .registers) (k .outputs)))
       by start = sized-cleared (k .gates) p
-      by (resume position) = sized-lent (k .gates) p (k .inputs) (k .registers) (k .outputs) r
+      by (resume position) =
+          record {
+            of-registers = length-take-le (p .registers) (k .registers) (r .for-registers);
+            of-outputs = length-take-le (p .outputs) (k .outputs) (r .for-outputs);
+          }
 
 -- ---- two calls, of one kind of gates or of two
 -- two calls that admit the same program agree in what their runs of it agree in
@@ -253,9 +232,13 @@ module _ {A B : Type 0} (G : Gates A) (H : Gates B) (file : List ℕ) (inputs re
     (inputs′ registers′ outputs′ : List B) where
   pub both-enough : Enough file inputs registers outputs → Enough file inputs′ registers′ outputs′ → (position : ℕ) →
       admitted G file inputs registers outputs position ≡ admitted H file inputs′ registers′ outputs′ position
+  unfolding admitted
   both-enough enough enough′ position =
-      admitted-enough G file inputs registers outputs position enough ∙
-      sym (admitted-enough H file inputs′ registers′ outputs′ position enough′)
+      bind-eq (checkOf file) _ _
+      (λ c e. rw (
+        room-gives G (c .program) inputs registers outputs (enough c e),
+        room-gives H (c .program) inputs′ registers′ outputs′ (enough′ c e),
+      ))
 
   pub equal-lengths : length inputs ≡ length inputs′ → length registers ≡ length registers′ → length outputs ≡ length outputs′ →
       (position : ℕ) → admitted G file inputs registers outputs position ≡ admitted H file inputs′ registers′ outputs′ position

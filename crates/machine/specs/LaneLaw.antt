@@ -5,15 +5,14 @@ use mathlib.Core.Path.{_≡_, refl, sym, ap, ap₂, _∙_}
 use mathlib.Core.List.{List, [], _∷_, map}
 use native.Mathlib.Omega.{arith}
 use lib.Bits.{and-lt, or-lt}
-use lib.ListN.{length, getD, set, length-map, List·getD-map}
+use lib.ListN.{length, getD, length-map, List·getD-map}
 use Rattle.laws.specs.Words.{bitAt, bitAt-zero, bitAt-and, bitAt-or, bitAt-not}
 use Rattle.laws.specs.Lists.{all-set, all-take, all-replicate, map-set, map-take, map-replicate}
-use Rattle.laws.specs.Outcome.{mapped-id}
-use Rattle.laws.specs.Outcome.{gives, mapped}
+use Rattle.laws.specs.Outcome.{gives, mapped, mapped-id}
 use Rattle.programs.specs.declared.description.Program.{Program}
 use Rattle.programs.specs.declared.description.Instruction.{Instruction}
 use Rattle.programs.specs.declared.description.Instruction.the-variants.{Ones, Zero, Input, Not, And, Or, Output}
-use Rattle.machine.specs.Meaning.{Gates, wordGates, bitGates, State, step, exec}
+use Rattle.machine.specs.Meaning.{Gates, wordGates, bitGates, State, into, step, exec}
 use Rattle.checker.specs.Checks.{Code}
 use Rattle.machine.specs.Runs.{Ended, carried, runOf, startOn, resumeOn, startOf, resumeOf}
 use Rattle.machine.specs.Calls.{Entry, start, resume, onEntry, Call, starting, resuming, cleared, lent, callOn, begins, from}
@@ -60,17 +59,16 @@ lane j x = bitAt x j
 
 -- ---- what holds of the words before a run holds of those after
 module _ {A : Type 0} (G : Gates A) (P : A → Type 0) (c : Closed G P) (inputs : List A) (p : All G P inputs) where
-  kept-register : (s : State A) (r : ℕ) (x : A) → Kept G P s → P x →
-      Kept G P (record { registers = set (s .registers) r x; outputs = s .outputs })
-  kept-register s r x k h = record { registers = all-set P (G .zeros) (s .registers) r x (k .registers) h; outputs = k .outputs }
+  kept-register : {s : State A} (r : ℕ) {x : A} → Kept G P s → P x → Kept G P (into G inputs r x s)
+  kept-register {s} r {x} k h = record { registers = all-set P (G .zeros) (s .registers) r x (k .registers) h; outputs = k .outputs }
 
   step-kept : (i : Instruction) (s : State A) → Kept G P s → Kept G P (step G inputs i s)
-  step-kept (Ones to) s k = kept-register s to _ k (c .ones)
-  step-kept (Zero to) s k = kept-register s to _ k (c .zeros)
-  step-kept (Input to n) s k = kept-register s to _ k (p n)
-  step-kept (Not to a) s k = kept-register s to _ k (c .inverse _ (k .registers a))
-  step-kept (And to a b) s k = kept-register s to _ k (c .both _ _ (k .registers a) (k .registers b))
-  step-kept (Or to a b) s k = kept-register s to _ k (c .either _ _ (k .registers a) (k .registers b))
+  step-kept (Ones to) s k = kept-register to k (c .ones)
+  step-kept (Zero to) s k = kept-register to k (c .zeros)
+  step-kept (Input to n) s k = kept-register to k (p n)
+  step-kept (Not to a) s k = kept-register to k (c .inverse _ (k .registers a))
+  step-kept (And to a b) s k = kept-register to k (c .both _ _ (k .registers a) (k .registers b))
+  step-kept (Or to a b) s k = kept-register to k (c .either _ _ (k .registers a) (k .registers b))
   step-kept (Output o a) s k =
       record { registers = k .registers; outputs = all-set P (G .zeros) (s .outputs) o _ (k .outputs) (k .registers a) }
 
@@ -79,31 +77,25 @@ module _ {A : Type 0} (G : Gates A) (P : A → Type 0) (c : Closed G P) (inputs 
   exec-kept [] s k = k
   exec-kept (i ∷ is) s k = exec-kept is (step G inputs i s) (step-kept i s k)
 
-  run-kept : (is : List Instruction) (position budget : ℕ) (s : State A) → Kept G P s →
-      Kept G P (runOf G is inputs position budget s .state)
-  unfolding runOf
-  run-kept is position budget s k = exec-kept (carried budget position is) s k
-
   -- ---- a map that commutes with the gates commutes with instructions
   module _ {B : Type 0} (H : Gates B) (f : A → B) (m : Commutes G H P f) where
     at-map : (xs : List A) (r : ℕ) → f (getD xs r (G .zeros)) ≡ getD (map f xs) r (H .zeros)
     at-map xs r = sym (List·getD-map f xs r (G .zeros)) ∙ ap (getD (map f xs) r) (m .zeros)
 
-    into-map : (s : State A) (r : ℕ) (x : A) (y : B) → f x ≡ y →
-        mapState f (record { registers = set (s .registers) r x; outputs = s .outputs }) ≡
-        record { registers = set (map f (s .registers)) r y; outputs = map f (s .outputs) }
-    into-map s r x y e = rw (map-set f (s .registers) r x, e)
+    into-map : (s : State A) (r : ℕ) {x : A} {y : B} → f x ≡ y →
+        mapState f (into G inputs r x s) ≡ into H (map f inputs) r y (mapState f s)
+    into-map s r {x} e = rw (map-set f (s .registers) r x, e)
 
     step-map : (i : Instruction) (s : State A) → Kept G P s → mapState f (step G inputs i s) ≡ step H (map f inputs) i (mapState f s)
-    step-map (Ones to) s k = into-map s to _ _ (m .ones)
-    step-map (Zero to) s k = into-map s to _ _ (m .zeros)
-    step-map (Input to n) s k = into-map s to _ _ (at-map inputs n)
-    step-map (Not to a) s k = into-map s to _ _ (m .inverse _ (k .registers a) ∙ ap (H .inverse) (at-map (s .registers) a))
+    step-map (Ones to) s k = into-map s to (m .ones)
+    step-map (Zero to) s k = into-map s to (m .zeros)
+    step-map (Input to n) s k = into-map s to (at-map inputs n)
+    step-map (Not to a) s k = into-map s to (m .inverse _ (k .registers a) ∙ ap (H .inverse) (at-map (s .registers) a))
     step-map (And to a b) s k =
-        into-map s to _ _
+        into-map s to
         (m .both _ _ (k .registers a) (k .registers b) ∙ ap₂ (H .both) (at-map (s .registers) a) (at-map (s .registers) b))
     step-map (Or to a b) s k =
-        into-map s to _ _
+        into-map s to
         (m .either _ _ (k .registers a) (k .registers b) ∙ ap₂ (H .either) (at-map (s .registers) a) (at-map (s .registers) b))
     step-map (Output o a) s k = rw (map-set f (s .outputs) o (getD (s .registers) a (G .zeros)), at-map (s .registers) a)
 
@@ -112,12 +104,6 @@ module _ {A : Type 0} (G : Gates A) (P : A → Type 0) (c : Closed G P) (inputs 
     unfolding exec
     exec-map [] s k = refl
     exec-map (i ∷ is) s k = exec-map is (step G inputs i s) (step-kept i s k) ∙ ap (exec H (map f inputs) is) (step-map i s k)
-
-    -- ---- and with runs
-    run-map : (is : List Instruction) (position budget : ℕ) (s : State A) → Kept G P s →
-        mapEnded f (runOf G is inputs position budget s) ≡ runOf H is (map f inputs) position budget (mapState f s)
-    unfolding runOf
-    run-map is position budget s k = rw (exec-map (carried budget position is) s k)
 
 -- ---- and so with a call
 -- what is asked of the words that a call runs from; a start clears them
@@ -143,11 +129,11 @@ module _ {A : Type 0} (P : A → Type 0) (k : Call A) (c : Closed (k .gates) P) 
 
   module _ (p : All (k .gates) P (k .inputs)) (a : AllLent P k) where
     call-kept : (budget : ℕ) (e : Ended A) → callOn k budget ≡ gives e → Kept (k .gates) P (e .state)
+    unfolding runOf
     call-kept budget e q =
         let r = call-ran k budget e q in
         let x : Code = r .0 in
-        rw (← r .2)
-        (run-kept (k .gates) P c (k .inputs) p (x .instructions) (begins k) budget (from k (x .program)) (kept-from a (x .program)))
+        rw (← r .2) (exec-kept (k .gates) P c (k .inputs) p (carried budget (begins k) (x .instructions)) _ (kept-from a (x .program)))
 
     -- ---- and a map with a call
     module _ {B : Type 0} (H : Gates B) (f : A → B) (m : Commutes (k .gates) H P f) where
@@ -171,14 +157,17 @@ module _ {A : Type 0} (P : A → Type 0) (k : Call A) (c : Closed (k .gates) P) 
           by (resume position) = rw (map-take f (q .registers) (k .registers), map-take f (q .outputs) (k .outputs))
 
       pub call-map : (budget : ℕ) → mapped (mapEnded f) (callOn k budget) ≡ callOn mapCall budget
+      unfolding runOf
       call-map budget =
           calls-agree k mapCall budget
-          (equal-lengths (k .gates) H (k .file) (k .inputs) (k .registers) (k .outputs) (map f (k .inputs)) (map f (k .registers))
-          (map f (k .outputs)) (sym (length-map (k .inputs) f)) (sym (length-map (k .registers) f)) (sym (length-map (k .outputs) f))
-          (begins k))
+          (equal-lengths _ _ _ _ _ _ _ _ _ (sym (length-map (k .inputs) f)) (sym (length-map (k .registers) f))
+          (sym (length-map (k .outputs) f)) (begins k))
           (mapEnded f) (λ e. e)
-          (λ x w. run-map (k .gates) P c (k .inputs) p H f m (x .instructions) (begins k) budget (from k (x .program))
-          (kept-from a (x .program)) ∙ rw (map-from (x .program))) ∙
+          (λ x w. rw (
+            ← map-from (x .program),
+            ← exec-map (k .gates) P c (k .inputs) p H f m
+                (carried budget (begins k) (x .instructions)) (from k (x .program)) (kept-from a (x .program)),
+          )) ∙
           mapped-id (callOn mapCall budget)
 
 -- ---- starts and resumes

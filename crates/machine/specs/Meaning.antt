@@ -31,7 +31,7 @@ module _ {A : Type 0} (G : Gates A) (inputs : List A) where
   abbrev held : State A → ℕ → A
   held s r = getD (s .registers) r (G .zeros)
 
-  abbrev into : ℕ → A → State A → State A
+  abbrev pub into : ℕ → A → State A → State A
   into r x s = record { registers = set (s .registers) r x; outputs = s .outputs }
 
   -- what one instruction does; it reads before it writes

@@ -8,11 +8,10 @@ use native.Mathlib.Omega.{arith}
 use borrow.Author.Tests.{eqb-true, eqb-false, eq-eqb, ne-eqb}
 use lib.ListN.{length}
 use Rattle.laws.specs.Outcome.{gives, gives-inj, mapped}
-use Rattle.programs.specs.declared.description.Instruction.{Instruction}
-use Rattle.machine.specs.Meaning.{Gates, State}
+use Rattle.machine.specs.Meaning.{Gates}
 use Rattle.checker.specs.Checks.{Code, checkOf}
 use Rattle.machine.specs.Runs.{Ended, steps, runAnswer, runOf, startOn, resumeOn}
-use Rattle.machine.specs.Calls.{Enough, Call, starting, resuming, callOn, begins, from, admits, call-ran}
+use Rattle.machine.specs.Calls.{Enough, Call, starting, resuming, callOn, begins, admits, call-ran}
 use Rattle.machine.specs.Calls.{both-enough, equal-lengths, calls-agree}
 use Rattle.checker.specs.Encoding.{accepted-sound}
 use Rattle.machine.specs.declared.runs.Run.{Run}
@@ -28,11 +27,6 @@ pub record Obeys (position budget count : ℕ) (r : Run) : Type 0 where
   pub ended : (r .finished ≡ true) ↔ (r .position ≡ count)
 
 -- ---- the answer is that of position, budget and count
-run-answer : {A : Type 0} (G : Gates A) (is : List Instruction) (inputs : List A) (position budget : ℕ) (s : State A) →
-    runOf G is inputs position budget s .answer ≡ runAnswer budget position (length is)
-unfolding runOf
-run-answer G is inputs position budget s = refl
-
 answer-obeys : (position budget count : ℕ) → position ≤ count → Obeys position budget count (runAnswer budget position count)
 answer-obeys position budget count h =
     let at : ℕ = position + steps budget position count in
@@ -47,17 +41,12 @@ answer-obeys position budget count h =
 -- ---- when a run stops
 call-obeys : {A : Type 0} (k : Call A) (c : Code) → checkOf (k .file) ≡ gives c → (budget : ℕ) (e : Ended A) → callOn k budget ≡ gives e →
     Obeys (begins k) budget (c .program .count) (e .answer)
-call-obeys {A} k c ok budget e q =
+unfolding runOf
+call-obeys k c ok budget e q =
     let r = call-ran k budget e q in
-    obeys (r .0) (gives-inj (sym (r .1 .accepted) ∙ ok)) (r .1 .before-end) e (r .2)
-  where
-    obeys : (d : Code) → d ≡ c → begins k ≤ length (d .instructions) → (e : Ended A) →
-        runOf (k .gates) (d .instructions) (k .inputs) (begins k) budget (from k (d .program)) ≡ e →
-        Obeys (begins k) budget (c .program .count) (e .answer)
-    obeys d same before e q =
-        let here : begins k ≤ length (c .instructions) = rw same at before in
-        rw (← q, run-answer (k .gates) (d .instructions) (k .inputs) (begins k) budget _, same, accepted-sound (k .file) c ok .counted)
-        (answer-obeys (begins k) budget (length (c .instructions)) here)
+    let same : r .0 ≡ c = gives-inj (sym (r .1 .accepted) ∙ ok) in
+    rw (← r .2, same, accepted-sound (k .file) c ok .counted)
+    (answer-obeys (begins k) budget (length (c .instructions)) (rw same at (r .1 .before-end)))
 
 module _ {A : Type 0} (G : Gates A) (file : List ℕ) (inputs registers outputs : List A) (c : Code) (ok : checkOf file ≡ gives c) where
   pub start-obeys : (budget : ℕ) (e : Ended A) → startOn G file inputs registers outputs budget ≡ gives e →
@@ -71,10 +60,8 @@ module _ {A : Type 0} (G : Gates A) (file : List ℕ) (inputs registers outputs 
 -- ---- the words play no part
 call-numbers : {A B : Type 0} (k : Call A) (k′ : Call B) → begins k ≡ begins k′ → admits k ≡ admits k′ → (budget : ℕ) →
     mapped (λ e. e .answer) (callOn k budget) ≡ mapped (λ e. e .answer) (callOn k′ budget)
-call-numbers k k′ here same budget =
-    calls-agree k k′ budget same (λ e. e .answer) (λ e. e .answer)
-    (λ c w. run-answer (k .gates) (c .instructions) (k .inputs) (begins k) budget (from k (c .program)) ∙
-    (rw here (sym (run-answer (k′ .gates) (c .instructions) (k′ .inputs) (begins k′) budget (from k′ (c .program))))))
+unfolding runOf
+call-numbers k k′ here same budget = calls-agree k k′ budget same (λ e. e .answer) (λ e. e .answer) (λ c w. rw here)
 
 module _ {A B : Type 0} (G : Gates A) (H : Gates B) (file : List ℕ) (inputs registers outputs : List A)
     (inputs′ registers′ outputs′ : List B) where
@@ -85,14 +72,14 @@ module _ {A B : Type 0} (G : Gates A) (H : Gates B) (file : List ℕ) (inputs re
         mapped (λ e. e .answer) (startOn H file inputs′ registers′ outputs′ budget)
     start-alike =
         call-numbers (starting G file inputs registers outputs) (starting H file inputs′ registers′ outputs′) refl
-        (both-enough G H file inputs registers outputs inputs′ registers′ outputs′ enough enough′ 0)
+        (both-enough _ _ _ _ _ _ _ _ _ enough enough′ 0)
 
     pub resume-alike : (position budget : ℕ) →
         mapped (λ e. e .answer) (resumeOn G file inputs registers outputs position budget) ≡
         mapped (λ e. e .answer) (resumeOn H file inputs′ registers′ outputs′ position budget)
     resume-alike position =
         call-numbers (resuming G file inputs registers outputs position) (resuming H file inputs′ registers′ outputs′ position) refl
-        (both-enough G H file inputs registers outputs inputs′ registers′ outputs′ enough enough′ position)
+        (both-enough _ _ _ _ _ _ _ _ _ enough enough′ position)
 
   -- and of equal lengths, long enough or not
   module _ (i : length inputs ≡ length inputs′) (r : length registers ≡ length registers′) (o : length outputs ≡ length outputs′) where
@@ -101,11 +88,11 @@ module _ {A B : Type 0} (G : Gates A) (H : Gates B) (file : List ℕ) (inputs re
         mapped (λ e. e .answer) (startOn H file inputs′ registers′ outputs′ budget)
     start-same =
         call-numbers (starting G file inputs registers outputs) (starting H file inputs′ registers′ outputs′) refl
-        (equal-lengths G H file inputs registers outputs inputs′ registers′ outputs′ i r o 0)
+        (equal-lengths _ _ _ _ _ _ _ _ _ i r o 0)
 
     pub resume-same : (position budget : ℕ) →
         mapped (λ e. e .answer) (resumeOn G file inputs registers outputs position budget) ≡
         mapped (λ e. e .answer) (resumeOn H file inputs′ registers′ outputs′ position budget)
     resume-same position =
         call-numbers (resuming G file inputs registers outputs position) (resuming H file inputs′ registers′ outputs′ position) refl
-        (equal-lengths G H file inputs registers outputs inputs′ registers′ outputs′ i r o position)
+        (equal-lengths _ _ _ _ _ _ _ _ _ i r o position)

@@ -9,10 +9,8 @@ use borrow.Author.Tests.{eq-eqb}
 use lib.ListN.{length, take, drop, length-take, length-drop}
 use lib.Seq.{take-add, take-all, drop-drop}
 use Rattle.laws.specs.Lay.{lay, take-lay, lay-again}
-use Rattle.laws.specs.Outcome.{Outcome, refused, gives, _>>=_, mapped, laid, gives-inj, no-result, bind-after, bind-gives}
-use Rattle.laws.specs.Outcome.{bind-mapped}
+use Rattle.laws.specs.Outcome.{Outcome, refused, gives, _>>=_, mapped, laid, gives-inj, no-result, bind-after, bind-gives, bind-mapped}
 use Rattle.programs.specs.Reading.{within-means}
-use Rattle.programs.specs.declared.description.Program.{Program}
 use Rattle.programs.specs.declared.description.Instruction.{Instruction}
 use Rattle.machine.specs.Meaning.{Gates, State, exec, exec-append}
 use Rattle.checker.specs.Checks.{Code, checkOf}
@@ -113,14 +111,6 @@ pub carried-many : (budget position : ℕ) (is : List Instruction) →
 carried-many budget position is =
     omega (arith, length-take (steps budget position (length is)) (drop position is), length-drop position is)
 
-steps-join : (a b position count : ℕ) → count ≤ most-budget →
-    steps a position count + steps b (position + steps a position count) count ≡ steps (together a b) position count
-steps-join a b position count h = omega arith
-
-end-join : (a b position count : ℕ) → count ≤ most-budget →
-    position + steps a position count + steps b (position + steps a position count) count ≡ position + steps (together a b) position count
-end-join a b position count h = omega (arith, steps-join a b position count h)
-
 module _ {A : Type 0} (G : Gates A) (is : List Instruction) (inputs : List A) where
   -- from any position: a run, and a second one from where it ended, are one run on both budgets together
   pub run-continued : length is ≤ most-budget → (position a b : ℕ) (s : State A) →
@@ -135,24 +125,21 @@ module _ {A : Type 0} (G : Gates A) (is : List Instruction) (inputs : List A) wh
       exec G inputs (take (x + y) (drop position is)) s =
       rw (take-add x y (drop position is), drop-drop x position is)
       (sym (exec-append G inputs (take x (drop position is)) (take y (drop (position + x) is)) s)) in
-      rw (carried, steps-join a b position n few, end-join a b position n few)
+      let all : x + y ≡ steps (together a b) position n = omega arith in
+      let end : position + x + y ≡ position + steps (together a b) position n = omega (arith, all) in
+      rw (carried, all, end)
 
   -- a budget for all instructions
-  pub run-whole : (budget : ℕ) (s : State A) → length is ≤ budget →
+  run-whole : (count budget : ℕ) (s : State A) → count ≡ length is → count ≤ budget →
       runOf G is inputs 0 budget s ≡
       record {
-        answer = record { finished = true; position = length is; count = length is; budget = budget };
+        answer = record { finished = true; position = count; count = count; budget = budget };
         state = exec G inputs is s;
       }
   unfolding runOf
-  run-whole budget s h =
+  run-whole count budget s e h =
       let all : steps budget 0 (length is) ≡ length is = omega arith in
-      rw (all, zero-add (length is), eq-eqb (length is) (length is) refl, take-all (length is) is (omega arith))
-
-  run-before-end : (position budget : ℕ) (s : State A) → position ≤ length is →
-      runOf G is inputs position budget s .answer .position ≤ length is
-  unfolding runOf
-  run-before-end position budget s h = omega arith
+      rw (e, all, zero-add (length is), eq-eqb (length is) (length is) refl, take-all (length is) is (omega arith))
 
 pub few-instructions : (file : List ℕ) (c : Code) → checkOf file ≡ gives c → length (c .instructions) ≤ most-budget
 few-instructions file c e =
@@ -169,26 +156,22 @@ module _ {A : Type 0} where
         in-outputs = take-lay (length (s .outputs)) (s .outputs) outputs refl;
       }
 
-  front-long : (xs buf : List A) → take (length xs) buf ≡ xs → length xs ≤ length buf
-  front-long xs buf e = omega (arith, length-take (length xs) buf, ap length e)
-
-  room-held : (p : Program) (s : State A) (inputs registers outputs : List A) → p .inputs ≤ length inputs → Sized p s →
-      Holds s registers outputs → Room p inputs registers outputs
-  room-held p s inputs registers outputs i z h =
-      record {
-        for-inputs = i;
-        for-registers = omega (arith, front-long (s .registers) registers (h .in-registers), z .of-registers);
-        for-outputs = omega (arith, front-long (s .outputs) outputs (h .in-outputs), z .of-outputs);
-      }
-
 module _ {A : Type 0} (G : Gates A) (file : List ℕ) (inputs : List A) where
   -- a resume on buffers that hold a state runs on from that state
-  resume-held : (c : Code) → checkOf file ≡ gives c → c .program .inputs ≤ length inputs → (s : State A) (registers outputs : List A)
+  resume-held : {c : Code} → checkOf file ≡ gives c → c .program .inputs ≤ length inputs → {s : State A} {registers outputs : List A}
       (position budget : ℕ) → Sized (c .program) s → Holds s registers outputs → position ≤ length (c .instructions) →
       resumeOn G file inputs registers outputs position budget ≡ gives (runOf G (c .instructions) inputs position budget s)
-  resume-held c ok i s registers outputs position budget z h l =
+  resume-held {c} ok i {s} {registers} {outputs} position budget z h l =
       call-gives (resuming G file inputs registers outputs position) budget c
-      (record { accepted = ok; before-end = l; room = room-held (c .program) s inputs registers outputs i z h }) ∙
+      (record {
+        accepted = ok;
+        before-end = l;
+        room = record {
+          for-inputs = i;
+          for-registers = omega (arith, length-take (length (s .registers)) registers, ap length (h .in-registers), z .of-registers);
+          for-outputs = omega (arith, length-take (length (s .outputs)) outputs, ap length (h .in-outputs), z .of-outputs);
+        };
+      }) ∙
       rw (← z .of-registers, ← z .of-outputs, h .in-registers, h .in-outputs)
 
   -- of registers and outputs a resume sees those at the front, as many as the header counts
@@ -220,12 +203,9 @@ module _ {A : Type 0} (k : Call A) where
       callOn k budget ≡ gives (wholeRun (k .gates) c (k .inputs) budget (from k (c .program)))
   call-whole first budget c ok room enough =
       call-gives k budget c (record { accepted = ok; before-end = omega arith; room = room }) ∙
-      rw first (ap gives (all (from k (c .program))))
-    where
-      all : (s : State A) → runOf (k .gates) (c .instructions) (k .inputs) 0 budget s ≡ wholeRun (k .gates) c (k .inputs) budget s
-      all s =
-          let n : c .program .count ≡ length (c .instructions) = accepted-sound (k .file) c ok .counted in
-          rw n (run-whole (k .gates) (c .instructions) (k .inputs) budget s (omega arith))
+      rw first
+      (ap gives (run-whole (k .gates) (c .instructions) (k .inputs) (c .program .count) budget (from k (c .program))
+      (accepted-sound (k .file) c ok .counted) enough))
 
   -- the run of a call, and that of a resume on what it left
   module _ (a b : ℕ) (c : Code) (w : MayRun k c) where
@@ -245,31 +225,28 @@ module _ {A : Type 0} (k : Call A) where
         sized-run (k .gates) (c .program) (c .instructions) (k .inputs) (begins k) a (from k (c .program))
         (sized-from k (c .program) (w .room))
 
-    sized-second : Sized (c .program) (second .state)
-    sized-second = sized-run (k .gates) (c .program) (c .instructions) (k .inputs) (first .answer .position) b (first .state) sized-first
-
-    runs-on : (registers′ outputs′ : List A) → Holds (first .state) registers′ outputs′ →
+    runs-on : {registers′ outputs′ : List A} → Holds (first .state) registers′ outputs′ →
         resumeOn (k .gates) (k .file) (k .inputs) registers′ outputs′ (first .answer .position) b ≡ gives second
-    runs-on registers′ outputs′ held =
-        resume-held (k .gates) (k .file) (k .inputs) c (w .accepted) (w .room .for-inputs) (first .state) registers′ outputs′
-        (first .answer .position) b sized-first held
-        (run-before-end (k .gates) (c .instructions) (k .inputs) (begins k) a (from k (c .program)) (w .before-end))
+    unfolding runOf
+    runs-on held =
+        resume-held (k .gates) (k .file) (k .inputs) (w .accepted) (w .room .for-inputs) (first .answer .position) b sized-first held
+        (omega (arith, w .before-end))
 
     -- on any buffers that hold what the call left
-    goes-on : (e : Ended A) → first ≡ e → (registers′ outputs′ : List A) → Holds (e .state) registers′ outputs′ →
+    goes-on : {e : Ended A} → first ≡ e → {registers′ outputs′ : List A} → Holds (e .state) registers′ outputs′ →
         goneOn (k .gates) (k .file) (k .inputs) registers′ outputs′ b e ≡ callOn k (together a b)
-    goes-on e q registers′ outputs′ held =
-        rw (← q, call-gives k (together a b) c w, runs-on registers′ outputs′ (rw (← q) at held)) (ap gives one-run)
+    goes-on q held =
+        rw (← q, call-gives k (together a b) c w, runs-on (rw (← q) at held)) (ap gives one-run)
 
     -- and on the buffers of the call itself
     left-again : again (k .gates) (k .file) (k .inputs) (leaves (k .registers) (k .outputs) first) b ≡
         gives (leaves (k .registers) (k .outputs) (callRun k (together a b) c))
     left-again =
         let x = sized-first in
-        let y = sized-second in
         let s = first .state in
+        let y = sized-run (k .gates) (c .program) (c .instructions) (k .inputs) (first .answer .position) b s x in
         rw (
-          runs-on (lay (s .registers) (k .registers)) (lay (s .outputs) (k .outputs)) (holds-laid s (k .registers) (k .outputs)),
+          runs-on (holds-laid s (k .registers) (k .outputs)),
           ← one-run,
           lay-again (s .registers) (second .state .registers) (k .registers) (x .of-registers ∙ sym (y .of-registers)),
           lay-again (s .outputs) (second .state .outputs) (k .outputs) (x .of-outputs ∙ sym (y .of-outputs)),
@@ -281,7 +258,7 @@ module _ {A : Type 0} (k : Call A) where
       goneOn (k .gates) (k .file) (k .inputs) registers′ outputs′ b e ≡ callOn k (together a b)
   call-continued registers′ outputs′ a b e q held =
       let r = call-ran k a e q in
-      goes-on a b (r .0) (r .1) e (r .2) registers′ outputs′ held
+      goes-on a b (r .0) (r .1) (r .2) held
 
   -- the same of all that the caller holds after the two calls, and of refusals
   call-again : (a b : ℕ) → (called a >>= (λ l. again (k .gates) (k .file) (k .inputs) l b)) ≡ called (together a b)

@@ -16,11 +16,11 @@ use Rattle.programs.specs.Instructions.{uses}
 use Rattle.programs.specs.declared.description.Program.{Program}
 use Rattle.programs.specs.declared.description.Instruction.{Instruction}
 use Rattle.programs.specs.declared.description.Instruction.the-variants.{Ones, Zero, Input, Not, And, Or, Output}
-use Rattle.machine.specs.Meaning.{Gates, State, step, exec, step-long, exec-long}
+use Rattle.machine.specs.Meaning.{Gates, State, into, step, exec, step-long, exec-long}
 use Rattle.checker.specs.Checks.{Code, checkOf}
 use Rattle.machine.specs.Runs.{Ended, steps, carried, runOf, startOn, resumeOn}
-use Rattle.machine.specs.Calls.{Room, Enough, Sized, starting, resuming, cleared, lent, admitted}
-use Rattle.machine.specs.Calls.{sized-cleared, sized-lent, equal-lengths, both-enough, calls-equal}
+use Rattle.machine.specs.Calls.{Room, Enough, Sized, Entry, start, resume, Call, starting, resuming, cleared, lent}
+use Rattle.machine.specs.Calls.{callOn, begins, from, admitted, sized-cleared, sized-from, equal-lengths, both-enough, calls-equal}
 use Rattle.laws.specs.Every.{OneOf}
 use Rattle.checker.specs.Accepting.{Fits, Ready, Sets, none, Sound}
 use Rattle.checker.specs.Encoding.{accepted-sound}
@@ -32,19 +32,19 @@ Takes K i = Each K (uses i .takes)
 
 -- ---- a start does not see what registers and outputs held before
 module _ {A : Type 0} (G : Gates A) (file : List ℕ) (inputs registers outputs registers′ outputs′ : List A) (budget : ℕ) where
-  start-blind : admitted G file inputs registers outputs 0 ≡ admitted G file inputs registers′ outputs′ 0 →
-      startOn G file inputs registers outputs budget ≡ startOn G file inputs registers′ outputs′ budget
-  start-blind e = calls-equal (starting G file inputs registers outputs) (starting G file inputs registers′ outputs′) budget e (λ c w. refl)
-
   -- the answer, and the registers and outputs after it, whether it stops or finishes
   pub start-forgets : length registers ≡ length registers′ → length outputs ≡ length outputs′ →
       startOn G file inputs registers outputs budget ≡ startOn G file inputs registers′ outputs′ budget
-  start-forgets r o = start-blind (equal-lengths G G file inputs registers outputs inputs registers′ outputs′ refl r o 0)
+  start-forgets r o =
+      calls-equal (starting G file inputs registers outputs) (starting G file inputs registers′ outputs′) budget
+      (equal-lengths _ _ _ _ _ _ _ _ _ refl r o 0) (λ c w. refl)
 
   -- also where other numbers of words are lent, all enough
   pub start-forgets-enough : Enough file inputs registers outputs → Enough file inputs registers′ outputs′ →
       startOn G file inputs registers outputs budget ≡ startOn G file inputs registers′ outputs′ budget
-  start-forgets-enough a b = start-blind (both-enough G G file inputs registers outputs inputs registers′ outputs′ a b 0)
+  start-forgets-enough a b =
+      calls-equal (starting G file inputs registers outputs) (starting G file inputs registers′ outputs′) budget
+      (both-enough _ _ _ _ _ _ _ _ _ a b 0) (λ c w. refl)
 
 -- ---- inputs that no instruction takes
 module _ {A : Type 0} (G : Gates A) (inputs inputs′ : List A) (K : ℕ → Type 0)
@@ -86,10 +86,9 @@ module _ {A : Type 0} (G : Gates A) (p : Program) where
         let l = step-long G inputs i s in
         record { of-registers = l .0 ∙ w .of-registers; of-outputs = l .1 ∙ w .of-outputs }
 
-    into-agree : (W O : ℕ → Type 0) (s t : State A) (to : ℕ) (x y : A) → to < p .registers → Sized p s → Sized p t → x ≡ y → Agree W O s t →
-        Agree (λ r. OneOf (to ∷ []) r ⊎ W r) (λ o. OneOf [] o ⊎ O o) (record { registers = set (s .registers) to x; outputs = s .outputs })
-        (record { registers = set (t .registers) to y; outputs = t .outputs })
-    into-agree W O s t to x y l w v e g =
+    into-agree : {W O : ℕ → Type 0} {s t : State A} (to : ℕ) (x y : A) → to < p .registers → Sized p s → Sized p t → x ≡ y → Agree W O s t →
+        Agree (λ r. OneOf (to ∷ []) r ⊎ W r) (λ o. OneOf [] o ⊎ O o) (into G inputs to x s) (into G inputs to y t)
+    into-agree {W} {O} {s} {t} to x y l w v e g =
         record {
           registers =
               set-agree W (s .registers) (t .registers) to x y (G .zeros) (omega (arith, w .of-registers)) (omega (arith, v .of-registers))
@@ -97,18 +96,18 @@ module _ {A : Type 0} (G : Gates A) (p : Program) where
           outputs = λ o q. ⊎-elim (λ (z : ⊥). absurd z) (λ (z : O o). g .outputs o z) q;
         }
 
-    step-agree : (W O : ℕ → Type 0) (i : Instruction) (s t : State A) → Fits p i → Each W (uses i .reads) → Sized p s → Sized p t →
+    step-agree : {W O : ℕ → Type 0} (i : Instruction) {s t : State A} → Fits p i → Each W (uses i .reads) → Sized p s → Sized p t →
         Agree W O s t →
         Agree (λ r. OneOf (uses i .writes) r ⊎ W r) (λ o. OneOf (uses i .sets) o ⊎ O o) (step G inputs i s) (step G inputs i t)
-    step-agree W O (Ones to) s t f e w v g = into-agree W O s t to _ _ (f .0 .0) w v refl g
-    step-agree W O (Zero to) s t f e w v g = into-agree W O s t to _ _ (f .0 .0) w v refl g
-    step-agree W O (Input to n) s t f e w v g = into-agree W O s t to _ _ (f .0 .0) w v refl g
-    step-agree W O (Not to a) s t f e w v g = into-agree W O s t to _ _ (f .0 .0) w v (ap (G .inverse) (g .registers a (e .0))) g
-    step-agree W O (And to a b) s t f e w v g =
-        into-agree W O s t to _ _ (f .0 .0) w v (ap₂ (G .both) (g .registers a (e .0)) (g .registers b (e .1 .0))) g
-    step-agree W O (Or to a b) s t f e w v g =
-        into-agree W O s t to _ _ (f .0 .0) w v (ap₂ (G .either) (g .registers a (e .0)) (g .registers b (e .1 .0))) g
-    step-agree W O (Output o a) s t f e w v g =
+    step-agree (Ones to) f e w v g = into-agree to _ _ (f .0 .0) w v refl g
+    step-agree (Zero to) f e w v g = into-agree to _ _ (f .0 .0) w v refl g
+    step-agree (Input to n) f e w v g = into-agree to _ _ (f .0 .0) w v refl g
+    step-agree (Not to a) f e w v g = into-agree to _ _ (f .0 .0) w v (ap (G .inverse) (g .registers a (e .0))) g
+    step-agree (And to a b) f e w v g =
+        into-agree to _ _ (f .0 .0) w v (ap₂ (G .both) (g .registers a (e .0)) (g .registers b (e .1 .0))) g
+    step-agree (Or to a b) f e w v g =
+        into-agree to _ _ (f .0 .0) w v (ap₂ (G .either) (g .registers a (e .0)) (g .registers b (e .1 .0))) g
+    step-agree {W} {O} (Output o a) {s} {t} f e w v g =
         record {
           registers = λ r q. ⊎-elim (λ (z : ⊥). absurd z) (λ (z : W r). g .registers r z) q;
           outputs =
@@ -117,20 +116,15 @@ module _ {A : Type 0} (G : Gates A) (p : Program) where
               (g .registers a (e .0)) (g .outputs);
         }
 
-    exec-agree : (is : List Instruction) (W O : ℕ → Type 0) (s t : State A) → Each (Fits p) is → Ready W is none → Sized p s → Sized p t →
+    exec-agree : (is : List Instruction) {W O : ℕ → Type 0} {s t : State A} → Each (Fits p) is → Ready W is none → Sized p s → Sized p t →
         Agree W O s t → (o : ℕ) → Sets o is ⊎ O o →
         getD (exec G inputs is s .outputs) o (G .zeros) ≡ getD (exec G inputs is t .outputs) o (G .zeros)
     unfolding exec
-    exec-agree [] W O s t f e w v g o q = ⊎-elim (λ (z : ⊥). absurd z) (λ (z : O o). g .outputs o z) q
-    exec-agree (i ∷ is) W O s t f e w v g o q =
-        exec-agree is (λ r. OneOf (uses i .writes) r ⊎ W r) (λ o. OneOf (uses i .sets) o ⊎ O o) (step G inputs i s) (step G inputs i t)
-        (f .1)
-        (e .1) (sized-step i s w) (sized-step i t v) (step-agree W O i s t (f .0) (e .0) w v g) o (turned q)
-      where
-        turned : (OneOf (uses i .sets) o ⊎ Sets o is) ⊎ O o → Sets o is ⊎ (OneOf (uses i .sets) o ⊎ O o)
-        turned (inl (inl z)) = inr (inl z)
-        turned (inl (inr z)) = inl z
-        turned (inr z) = inr (inr z)
+    exec-agree [] {W} {O} f e w v g o q = ⊎-elim (λ (z : ⊥). absurd z) (λ (z : O o). g .outputs o z) q
+    exec-agree (i ∷ is) {W} {O} {s} {t} f e w v g o q =
+        exec-agree is (f .1) (e .1) (sized-step i s w) (sized-step i t v) (step-agree i (f .0) (e .0) w v g) o
+        (⊎-elim (λ (z : OneOf (uses i .sets) o ⊎ Sets o is). ⊎-elim (λ (x : OneOf (uses i .sets) o). inr (inl x)) inl z)
+        (λ (z : O o). inr (inr z)) q)
 
     -- from any two states of as many words as the header says, a sound program's instructions leave the same outputs
     exec-forgets : (is : List Instruction) → Sound p is → (s t : State A) → Sized p s → Sized p t →
@@ -139,38 +133,27 @@ module _ {A : Type 0} (G : Gates A) (p : Program) where
         let ls : length (exec G inputs is s .outputs) ≡ p .outputs = exec-long G inputs is s .1 ∙ w .of-outputs in
         let lt : length (exec G inputs is t .outputs) ≡ p .outputs = exec-long G inputs is t .1 ∙ v .of-outputs in
         ext-getD (G .zeros) (exec G inputs is s .outputs) (exec G inputs is t .outputs) (ls ∙ sym lt)
-        (λ o l. exec-agree is none none s t (sound .in-range) (sound .written) w v
+        (λ o l. exec-agree is {W = none} {O = none} (sound .in-range) (sound .written) w v
         (record { registers = λ r z. absurd z; outputs = λ o z. absurd z }) o (inl (sound .all-set o (omega (arith, ls, l)))))
 
 -- ---- the same of starts and resumes of an accepted file
 module _ {A : Type 0} (G : Gates A) (file : List ℕ) (c : Code) (ok : checkOf file ≡ gives c) where
   module _ (inputs inputs′ : List A) (K : ℕ → Type 0) (same : (n : ℕ) → K n → getD inputs n (G .zeros) ≡ getD inputs′ n (G .zeros))
       (registers outputs : List A) (l : c .program .inputs ≤ length inputs) (l′ : c .program .inputs ≤ length inputs′) where
-    enough-inputs : (position : ℕ) → admitted G file inputs registers outputs position ≡ admitted G file inputs′ registers outputs position
-    unfolding admitted
-    enough-inputs position = rw (ok, le-ltb (length inputs) (c .program .inputs) l, le-ltb (length inputs′) (c .program .inputs) l′)
+    abbrev calls : Entry → List A → Call A
+    calls e words = record { gates = G; file = file; inputs = words; registers = registers; outputs = outputs; entry = e }
 
-    run-waits : (d : Code) → checkOf file ≡ gives d → (position budget : ℕ) (s : Program → State A) →
-        Each (Takes K) (carried budget position (c .instructions)) →
-        runOf G (d .instructions) inputs position budget (s (d .program)) ≡
-        runOf G (d .instructions) inputs′ position budget (s (d .program))
-    unfolding runOf
-    run-waits d q position budget s b =
-        let same-code : d ≡ c = gives-inj (sym q ∙ ok) in
-        rw (same-code, exec-inputs G inputs inputs′ K same (carried budget position (c .instructions)) (s (c .program)) b)
-
-    -- a start, and a resume, whose instructions take inputs of K alone come to the same whatever the other words are
-    start-waits : (budget : ℕ) → Each (Takes K) (carried budget 0 (c .instructions)) →
-        startOn G file inputs registers outputs budget ≡ startOn G file inputs′ registers outputs budget
-    start-waits budget b =
-        calls-equal (starting G file inputs registers outputs) (starting G file inputs′ registers outputs) budget (enough-inputs 0)
-        (λ d w. run-waits d (w .accepted) 0 budget (cleared G) b)
-
-    resume-waits : (position budget : ℕ) → Each (Takes K) (carried budget position (c .instructions)) →
-        resumeOn G file inputs registers outputs position budget ≡ resumeOn G file inputs′ registers outputs position budget
-    resume-waits position budget b =
-        calls-equal (resuming G file inputs registers outputs position) (resuming G file inputs′ registers outputs position) budget
-        (enough-inputs position) (λ d w. run-waits d (w .accepted) position budget (λ p. lent G p registers outputs) b)
+    -- a call whose instructions take inputs of K alone comes to the same whatever the other words are
+    waits : (e : Entry) (budget : ℕ) → Each (Takes K) (carried budget (begins (calls e inputs)) (c .instructions)) →
+        callOn (calls e inputs) budget ≡ callOn (calls e inputs′) budget
+    unfolding admitted runOf
+    waits e budget b =
+        let k : Call A = calls e inputs in
+        calls-equal k (calls e inputs′) budget
+        (rw (ok, le-ltb (length inputs) (c .program .inputs) l, le-ltb (length inputs′) (c .program .inputs) l′))
+        (λ d w.
+        let same-code : d ≡ c = gives-inj (sym (w .accepted) ∙ ok) in
+        rw (same-code, exec-inputs G inputs inputs′ K same (carried budget (begins k) (c .instructions)) (from k (c .program)) b))
 
     -- so where a start took words of K alone, a resume on what it left, with any other words filled in, comes to what one start on the
     -- words as they are then comes to
@@ -178,14 +161,14 @@ module _ {A : Type 0} (G : Gates A) (file : List ℕ) (c : Code) (ok : checkOf f
       pub start-waited : (a b : ℕ) (e : Ended A) → Each (Takes K) (carried a 0 (c .instructions)) →
           startOn G file inputs registers outputs a ≡ gives e → Holds (e .state) registers′ outputs′ →
           goneOn G file inputs′ registers′ outputs′ b e ≡ startOn G file inputs′ registers outputs (together a b)
-      start-waited a b e w q = start-continued G file inputs′ registers outputs registers′ outputs′ a b e (sym (start-waits a w) ∙ q)
+      start-waited a b e w q = start-continued G file inputs′ registers outputs registers′ outputs′ a b e (sym (waits start a w) ∙ q)
 
       -- and so with a resume
       pub resume-waited : (position a b : ℕ) (e : Ended A) → Each (Takes K) (carried a position (c .instructions)) →
           resumeOn G file inputs registers outputs position a ≡ gives e → Holds (e .state) registers′ outputs′ →
           goneOn G file inputs′ registers′ outputs′ b e ≡ resumeOn G file inputs′ registers outputs position (together a b)
       resume-waited position a b e w q =
-          resume-continued G file inputs′ registers outputs registers′ outputs′ position a b e (sym (resume-waits position a w) ∙ q)
+          resume-continued G file inputs′ registers outputs registers′ outputs′ position a b e (sym (waits (resume position) a w) ∙ q)
 
   -- a word that the header counts
   abbrev Counted : ℕ → Type 0
@@ -203,12 +186,12 @@ module _ {A : Type 0} (G : Gates A) (file : List ℕ) (c : Code) (ok : checkOf f
   module _ (inputs inputs′ : List A) (same : (n : ℕ) → n < c .program .inputs → getD inputs n (G .zeros) ≡ getD inputs′ n (G .zeros))
       (registers outputs : List A) (l : c .program .inputs ≤ length inputs) (l′ : c .program .inputs ≤ length inputs′) where
     pub start-inputs : (budget : ℕ) → startOn G file inputs registers outputs budget ≡ startOn G file inputs′ registers outputs budget
-    start-inputs budget = start-waits inputs inputs′ Counted same registers outputs l l′ budget (all-counted 0 budget)
+    start-inputs budget = waits inputs inputs′ Counted same registers outputs l l′ start budget (all-counted 0 budget)
 
     pub resume-inputs : (position budget : ℕ) →
         resumeOn G file inputs registers outputs position budget ≡ resumeOn G file inputs′ registers outputs position budget
     resume-inputs position budget =
-        resume-waits inputs inputs′ Counted same registers outputs l l′ position budget (all-counted position budget)
+        waits inputs inputs′ Counted same registers outputs l l′ (resume position) budget (all-counted position budget)
 
   -- carried out whole, from whatever registers and outputs held, the program leaves the outputs of a start
   pub whole-outputs : (inputs registers outputs registers′ outputs′ : List A) (budget : ℕ) → Room (c .program) inputs registers outputs →
@@ -218,4 +201,4 @@ module _ {A : Type 0} (G : Gates A) (file : List ℕ) (c : Code) (ok : checkOf f
   whole-outputs inputs registers outputs registers′ outputs′ budget r q h =
       rw (resume-whole G file inputs registers outputs budget c ok r h, start-whole G file inputs registers′ outputs′ budget c ok q h)
       (ap gives (exec-forgets G (c .program) inputs (c .instructions) (accepted-sound file c ok) (lent G (c .program) registers outputs)
-      (cleared G (c .program)) (sized-lent G (c .program) inputs registers outputs r) (sized-cleared G (c .program))))
+      (cleared G (c .program)) (sized-from (resuming G file inputs registers outputs 0) (c .program) r) (sized-cleared G (c .program))))

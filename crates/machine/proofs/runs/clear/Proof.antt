@@ -16,13 +16,13 @@ loop-holds : tie.Need-loop-holds Inv-loop μ-loop
 loop-holds c = (cleared-none _, search needs)
 
 loop-again : tie.Need-loop-again Inv-loop μ-loop
-loop-again c = (cleared-more _ _ _ (c .loop-test .taken) (c .before .loop .inv .0), search needs)
+loop-again c = (cleared-more (c .loop-test .taken) (c .before .loop .inv .0), search needs)
 
 same-length : tie.Need-same-length Inv-loop μ-loop
 same-length c = c .before .loop .inv .0 .long
 
 returns : tie.Need-returns Inv-loop μ-loop
-returns c = cleared-all _ _ _ (c .loop-test .left) (c .before .loop .inv .1) (c .before .loop .inv .0)
+returns c = cleared-all (c .loop-test .left) (c .before .loop .inv .1) (c .before .loop .inv .0)
 
 pub clear-spec : {M : Type 1} → statement M
 clear-spec =

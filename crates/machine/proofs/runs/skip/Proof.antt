@@ -14,26 +14,26 @@ abbrev μ-loop : tie.MeasureT-loop
 μ-loop file count position at₀ k₀ at k = position - k
 
 loop-holds : tie.Need-loop-holds Inv-loop μ-loop
-loop-holds c = (past-none _ _ _, search needs)
+loop-holds c = (past-none, search needs)
 
 field-at-requires : tie.Need-field-at-requires Inv-loop μ-loop
 field-at-requires c κs =
-    let h = past-room _ _ _ _ _ (c .before .loop .inv .0) (omega arith) (c .before .before .before .pre .0) in
+    let h = past-room (c .before .loop .inv .0) (omega arith) (c .before .before .before .pre .0) in
     omega arith
 
 add-at : tie.Need-add-at Inv-loop μ-loop
 add-at c =
     let l = c .before .before in
-    let h = past-fits _ _ _ _ _ (l .loop .inv .0) (omega arith) (l .before .before .pre .0) _ (c .field-at .ensures .0) in
+    let h = past-fits (l .loop .inv .0) (omega arith) (l .before .before .pre .0) (c .field-at .ensures .0) in
     omega arith
 
 loop-again : tie.Need-loop-again Inv-loop μ-loop
 loop-again c =
     let l = c .before .before in
-    (past-turn _ _ _ _ _ (l .loop .inv .0) (omega arith) (l .before .before .pre .0) _ (c .field-at .ensures .0), search needs)
+    (past-turn (l .loop .inv .0) (omega arith) (l .before .before .pre .0) (c .field-at .ensures .0), search needs)
 
 returns : tie.Need-returns Inv-loop μ-loop
-returns c = past-done _ _ _ _ _ _ (c .before .loop .inv .1) (c .loop-test .left) (c .before .loop .inv .0)
+returns c = past-done (c .before .loop .inv .0) (c .before .loop .inv .1) (c .loop-test .left)
 
 pub skip-spec : {M : Type 1} → statement M
 skip-spec =

@@ -8,7 +8,7 @@ returns : tie.Need-returns
 returns c =
     let b = c .before .before in
     let a = b .before in
-    gate-made conjunction _ _ _ _ _ _ (a .before .field-at .ensures .0) (a .field-at2 .ensures .0) (b .field-at3 .ensures .0)
+    gate-made conjunction _ _ _ (a .before .field-at .ensures .0) (a .field-at2 .ensures .0) (b .field-at3 .ensures .0)
 
 pub and-at-spec : {M : Type 1} → statement M
 and-at-spec =

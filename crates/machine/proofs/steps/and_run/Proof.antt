@@ -15,7 +15,7 @@ abbrev μ-loop : tie.MeasureT-loop
 μ-loop file from steps registers₀ more₀ at₀ registers more at = more
 
 -- where the kind has been tried, a gate is next
-turn : (c : tie.Then1 Inv-loop μ-loop) → Next conjunction (c .before .before .before .loop .inv)
+turn : (c : tie.Then1 Inv-loop μ-loop) → Next (c .before .before .before .loop .inv) conjunction
 turn c =
     record {
       some = c .before .before .loop-test .taken;

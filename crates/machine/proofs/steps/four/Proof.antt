@@ -32,6 +32,9 @@ third : (c : tie.Else3) →
 third c = sym (c .before .field-at3 .ensures .0) ∙ c .if3 .left
 
 -- and the room that each tells
+first-room : (s : tie.Start) → s .args .at + 6 ≤ length (s .args .file .now)
+first-room s = four-room (s .args .file .now) (s .args .at) (s .args .kind) (s .pre .1) (s .pre .2) (s .pre .0)
+
 second-room : (c : tie.Else1) → entry c .args .at + 16 ≤ length (entry c .args .file .now)
 second-room c =
     let s = entry c in
@@ -52,16 +55,10 @@ fourth-room c =
     one-room (s .args .file .now) (s .args .at) (s .args .kind) (s .pre .1) (s .pre .2) (s .pre .0) (first a) (second b) (third c)
 
 add-field-at : tie.Need-add-field-at
-add-field-at c =
-    let s = c .before in
-    let h = four-room (s .args .file .now) (s .args .at) (s .args .kind) (s .pre .1) (s .pre .2) (s .pre .0) in
-    omega arith
+add-field-at c = let h = first-room (c .before) in omega arith
 
 field-at-requires : tie.Need-field-at-requires
-field-at-requires c κs =
-    let s = c .before in
-    let h = four-room (s .args .file .now) (s .args .at) (s .args .kind) (s .pre .1) (s .pre .2) (s .pre .0) in
-    omega arith
+field-at-requires c κs = let h = first-room (c .before) in omega arith
 
 returns : tie.Need-returns
 returns c = λ e. absurd (true≢false (sym e))

@@ -8,7 +8,7 @@ returns : tie.Need-returns
 returns c =
     let b = c .before .before in
     let a = b .before in
-    gate-made disjunction _ _ _ _ _ _ (a .before .field-at .ensures .0) (a .field-at2 .ensures .0) (b .field-at3 .ensures .0)
+    gate-made disjunction _ _ _ (a .before .field-at .ensures .0) (a .field-at2 .ensures .0) (b .field-at3 .ensures .0)
 
 pub or-at-spec : {M : Type 1} → statement M
 or-at-spec =

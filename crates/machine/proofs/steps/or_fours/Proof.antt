@@ -1,9 +1,10 @@
 -- `machine::or_fours` meets its contract: what is left from here ends where the whole ends. Assumes nothing.
 use borrow.Author.Needs.{needs}
 use native.Mathlib.Omega.{arith}
+use mathlib.Core.Path.{refl}
 use Rattle.machine.specs.Steps.{disjunction}
-use Rattle.machine.specs.Turns.{Along, NextFour, along-none, four-stand, gates-room, four-done}
-use Rattle.machine.specs.Turns.{first-gate, second-gate, third-gate, fourth-gate}
+use Rattle.machine.specs.Turns.{Along, NextFour, along-none, four-stand, next-gate, gate-done, first-next, then-next, then-done}
+use Rattle.machine.specs.Turns.{gates-room}
 use Rattle.machine.proofs.steps.or_fours.Statement.{statement}
 use Rattle.machine.proofs.steps.or_fours.Tie as tie
 
@@ -14,7 +15,7 @@ abbrev μ-loop : tie.MeasureT-loop
 μ-loop file from steps registers₀ more₀ at₀ registers more at = more
 
 -- where the four kinds have been tried, four gates are next
-turn : (c : tie.Then1 Inv-loop μ-loop) → NextFour disjunction (c .before .before .before .loop .inv)
+turn : (c : tie.Then1 Inv-loop μ-loop) → NextFour (c .before .before .before .loop .inv) disjunction
 turn c = record { some = c .before .before .loop-test .taken; kinds = c .before .four .ensures (c .if1 .taken) }
 
 -- from each gate that is done to the one before it
@@ -34,7 +35,7 @@ four-requires : tie.Need-four-requires Inv-loop μ-loop
 four-requires c κs = (four-stand (c .before .loop .inv) (c .loop-test .taken), search needs, search needs)
 
 or-at-requires : tie.Need-or-at-requires Inv-loop μ-loop
-or-at-requires c κs = first-gate (turn (c .before))
+or-at-requires c κs = next-gate (first-next (turn (c .before)))
 
 add-or-at : tie.Need-add-or-at Inv-loop μ-loop
 add-or-at c = let h = gates-room (turn (c .before .before .before .before)) in omega arith
@@ -42,7 +43,8 @@ add-or-at c = let h = gates-room (turn (c .before .before .before .before)) in o
 or-at-requires-2 : tie.Need-or-at-requires-2 Inv-loop μ-loop
 or-at-requires-2 c κs =
     let a = c .before .before .before in
-    second-gate (turn (a .before .before)) (a .or-at .ensures)
+    let t = turn (a .before .before) in
+    next-gate (then-next t 1 refl (gate-done (first-next t) (a .or-at .ensures)))
 
 add-or-at-2 : tie.Need-add-or-at-2 Inv-loop μ-loop
 add-or-at-2 c = let h = gates-room (turn (first (c .before .before) .before .before)) in omega arith
@@ -51,7 +53,8 @@ or-at-requires-3 : tie.Need-or-at-requires-3 Inv-loop μ-loop
 or-at-requires-3 c κs =
     let b = c .before .before .before in
     let a = first b in
-    third-gate (turn (a .before .before)) (a .or-at .ensures) (b .or-at2 .ensures)
+    let t = turn (a .before .before) in
+    next-gate (then-next t 2 refl (then-done t 1 refl (gate-done (first-next t) (a .or-at .ensures)) (b .or-at2 .ensures)))
 
 add-or-at-3 : tie.Need-add-or-at-3 Inv-loop μ-loop
 add-or-at-3 c = let h = gates-room (turn (first (second (c .before .before)) .before .before)) in omega arith
@@ -61,7 +64,9 @@ or-at-requires-4 c κs =
     let d = c .before .before .before in
     let b = second d in
     let a = first b in
-    fourth-gate (turn (a .before .before)) (a .or-at .ensures) (b .or-at2 .ensures) (d .or-at3 .ensures)
+    let t = turn (a .before .before) in
+    let two = then-done t 1 refl (gate-done (first-next t) (a .or-at .ensures)) (b .or-at2 .ensures) in
+    next-gate (then-next t 3 refl (then-done t 2 refl two (d .or-at3 .ensures)))
 
 add-at : tie.Need-add-at Inv-loop μ-loop
 add-at c = let h = gates-room (turn (first (second (third (c .before .before))) .before .before)) in omega arith
@@ -78,7 +83,9 @@ loop-again c =
     let d = third e in
     let b = second d in
     let a = first b in
-    four-done (turn (a .before .before)) (a .or-at .ensures) (b .or-at2 .ensures) (d .or-at3 .ensures) (e .or-at4 .ensures)
+    let t = turn (a .before .before) in
+    let two = then-done t 1 refl (gate-done (first-next t) (a .or-at .ensures)) (b .or-at2 .ensures) in
+    then-done t 3 refl (then-done t 2 refl two (d .or-at3 .ensures)) (e .or-at4 .ensures)
 
 same-length : tie.Need-same-length Inv-loop μ-loop
 same-length c = c .before .before .before .loop .inv .long
