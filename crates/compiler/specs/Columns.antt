@@ -2,20 +2,18 @@
 use Prim.Native.Nat.{ℕ, zero, suc, _+_, _*_, _-_, _/_, _%_, _^_, _≤_, _<_, min, max}
 use mathlib.Core.Path.{_≡_, refl, ap, ap₂, _∙_, subst}
 use mathlib.Core.List.{List, [], _∷_, _++_}
-use mathlib.Core.Logic.{_≢_, ⊎-elim}
+use mathlib.Core.Logic.{_≢_}
 use native.Mathlib.Nat.{add-zero}
 use native.Mathlib.Numerals.{add-one}
 use native.Mathlib.Omega.{arith}
 use lib.ListN.{length, getD}
-use Rattle.laws.specs.Tests.{lt-or-ge}
 use Rattle.laws.specs.Sums.{sumTo}
 use Rattle.laws.specs.Lists.{blocks, Each, each-blocks}
 use Rattle.files.specs.Matrix.{ones-in}
 use Rattle.programs.specs.declared.description.Instruction.{Instruction}
 use Rattle.programs.specs.declared.description.Instruction.the-variants.{Input, Not, And, Or}
 use Rattle.walk.specs.Walk.{Place, at, scan}
-use Rattle.machine.specs.Meaning.{bitGates, State, exec}
-use Rattle.machine.specs.Meaning.{exec-append}
+use Rattle.machine.specs.Meaning.{bitGates, State, exec, exec-append}
 use Rattle.compiler.specs.Translation.{regB, regN, regH, regV, regX, regY, apart, split, ifSet, spell, mark, marks}
 use Rattle.compiler.specs.Translation.{carry, keep, liveBefore, column}
 use Rattle.compiler.specs.Room.{Roomy, live-le, live-next}
@@ -40,15 +38,6 @@ record Scans (k m n j : ℕ) (o : Place) (s : State ℕ) : Type 0 where
   tells : Tells k m o s
   atY : (a i : ℕ) → a ≡ j + i → a < n → reg (regY k m a) s ≡ isAt i o
 
-module _ (P : ℕ → Type 0) where
-  -- a fact of the even and of the odd numbers
-  even-odd : (h : ℕ) → ((i : ℕ) → i < h → P (2 * i)) → ((i : ℕ) → i < h → P (2 * i + 1)) → (j : ℕ) → j < 2 * h → P j
-  even-odd h e o j l =
-      ⊎-elim
-      (λ (q : j % 2 < 1). let is : 2 * (j / 2) ≡ j = omega arith in subst P is (e (j / 2) (omega arith)))
-      (λ (q : 1 ≤ j % 2). let is : 2 * (j / 2) + 1 ≡ j = omega arith in subst P is (o (j / 2) (omega arith)))
-      (lt-or-ge (j % 2) 1)
-
 module _ (inputs : List ℕ) (k m : ℕ) where
   abbrev Long : State ℕ → Type 0
   Long s = 3 + k + 3 * m ≤ length (s .registers)
@@ -66,39 +55,37 @@ module _ (inputs : List ℕ) (k m : ℕ) where
         atV = λ t l. run-leaves inputs (regV t) is s (n (regV t) (omega arith) (omega arith)) ∙ (here .atV t l ∙ ap (sampleBit t) e);
       }
 
-  -- ---- the distances split
-  module _ (i : ℕ) (s : State ℕ) (h : i < m) (long : Long s) where
-    apart-even : reg (regY k m (2 * i)) (run inputs (apart k m i) s) ≡ min (reg (regX k i) s) (reg regN s)
-    apart-even =
-        writes-first inputs (And (regY k m (2 * i)) (regX k i) regN) _ s (regY k m (2 * i)) refl (omega arith) (omega arith)
-
-    apart-odd : reg (regY k m (2 * i + 1)) (run inputs (apart k m i) s) ≡ min (reg (regX k i) s) (reg regB s)
+  -- ---- the distances split, by the bit b
+  module _ (b : ℕ) (bit : b ≤ 1) (o : Place) where
+    apart-run : (i d : ℕ) (s : State ℕ) → i < m → Long s → reg regB s ≡ b → reg regN s ≡ 1 - b → reg (regX k i) s ≡ isAt i o →
+        d ≤ 1 → reg (regY k m (2 * i + d)) (run inputs (apart k m i) s) ≡ isAt (2 * i + d) (doubled b o)
     unfolding exec
-    apart-odd =
+    apart-run i zero s h long isB isN isX u =
+        rw add-zero
+        (writes-first inputs (And (regY k m (2 * i)) (regX k i) regN) (And (regY k m (2 * i + 1)) (regX k i) regB ∷ []) s
+        (regY k m (2 * i)) refl (omega arith) (omega arith) ∙
+        (ap₂ min isX isN ∙ doubled-even b i o bit))
+    apart-run i (suc zero) s h long isB isN isX u =
         let one : List Instruction = And (regY k m (2 * i)) (regX k i) regN ∷ [] in
         writes-first inputs (And (regY k m (2 * i + 1)) (regX k i) regB) [] (run inputs one s) (regY k m (2 * i + 1)) refl
         (omega (arith, still one s long)) tt ∙
-        ap₂ min (run-leaves inputs (regX k i) one s (omega arith)) (run-leaves inputs regB one s (omega arith))
+        (ap₂ min (run-leaves inputs (regX k i) one s (omega arith) ∙ isX) (run-leaves inputs regB one s (omega arith) ∙ isB) ∙
+        doubled-odd b i o bit)
+    apart-run i (suc (suc d)) s h long isB isN isX u = absurd (omega arith)
 
-  module _ (h : ℕ) (s : State ℕ) (few : h ≤ m) (long : Long s) where
-    aparts-leave : (n r : ℕ) → r < regY k m 0 → reg r (run inputs (blocks n (apart k m)) s) ≡ reg r s
-    aparts-leave n r l = run-leaves inputs r (blocks n (apart k m)) s (each-blocks (Leaves r) (apart k m) n (λ i u. omega arith))
-
-    module _ (o : Place) (b : ℕ) (bit : b ≤ 1) (isB : reg regB s ≡ b) (isN : reg regN s ≡ 1 - b)
-        (isX : (i : ℕ) → i < h → reg (regX k i) s ≡ isAt i o) where
-      aparts-run : (j : ℕ) → j < 2 * h → reg (regY k m j) (run inputs (blocks h (apart k m)) s) ≡ isAt j (doubled b o)
-      aparts-run =
-          let before : ℕ → State ℕ = λ i. run inputs (blocks i (apart k m)) s in
-          let long′ : (i : ℕ) → Long (before i) = λ i. still (blocks i (apart k m)) s long in
-          even-odd (λ j. reg (regY k m j) (run inputs (blocks h (apart k m)) s) ≡ isAt j (doubled b o)) h
-          (λ i l. blocks-leave inputs (regY k m (2 * i)) (apart k m) s h i l (λ j a c. omega arith) ∙
-          (apart-even i (before i) (omega arith) (long′ i) ∙
-          (ap₂ min (aparts-leave i (regX k i) (omega arith) ∙ isX i l) (aparts-leave i regN (omega arith) ∙ isN) ∙
-          doubled-even b i o bit)))
-          (λ i l. blocks-leave inputs (regY k m (2 * i + 1)) (apart k m) s h i l (λ j a c. omega arith) ∙
-          (apart-odd i (before i) (omega arith) (long′ i) ∙
-          (ap₂ min (aparts-leave i (regX k i) (omega arith) ∙ isX i l) (aparts-leave i regB (omega arith) ∙ isB) ∙
-          doubled-odd b i o bit)))
+    aparts-run : (h : ℕ) (s : State ℕ) → h ≤ m → Long s → reg regB s ≡ b → reg regN s ≡ 1 - b →
+        ((i : ℕ) → i < h → reg (regX k i) s ≡ isAt i o) → (j : ℕ) → j < 2 * h →
+        reg (regY k m j) (run inputs (blocks h (apart k m)) s) ≡ isAt j (doubled b o)
+    aparts-run h s few long isB isN isX j l =
+        let i : ℕ = j / 2 in
+        let before : List Instruction = blocks i (apart k m) in
+        let other : (r : ℕ) → r < regY k m 0 → reg r (run inputs before s) ≡ reg r s =
+        λ r u. run-leaves inputs r before s (each-blocks (Leaves r) (apart k m) i (λ j a. omega arith)) in
+        let e : 2 * i + j % 2 ≡ j = omega arith in
+        subst (λ (j : ℕ). reg (regY k m j) (run inputs (blocks h (apart k m)) s) ≡ isAt j (doubled b o)) e
+        (blocks-leave inputs (regY k m (2 * i + j % 2)) (apart k m) s h i (omega arith) (λ j a c. omega arith) ∙
+        apart-run i (j % 2) (run inputs before s) (omega arith) (still before s long) (other regB (omega arith) ∙ isB)
+        (other regN (omega arith) ∙ isN) (other (regX k i) (omega arith) ∙ isX i (omega arith)) (omega arith))
 
   -- the bit of column c is read
   split-run : (c h : ℕ) (o : Place) (s : State ℕ) → getD inputs c 0 ≤ 1 → h ≤ m → Stands k m h o s →
@@ -121,7 +108,7 @@ module _ (inputs : List ℕ) (k m : ℕ) where
             (λ r a l. (omega arith, (omega arith, each-blocks (Leaves r) (apart k m) h (λ i u. omega arith)))) (doubled-answer b o)
             (here .tells);
         atY = λ a i e l.
-            aparts-run h s′ few (still two s long) o b bit isB isN (λ i u. other i ∙ here .atX i u) a l ∙
+            aparts-run b bit o h s′ few (still two s long) isB isN (λ i u. other i ∙ here .atX i u) a l ∙
             ap (λ (j : ℕ). isAt j (doubled b o)) (omega arith);
       }
 

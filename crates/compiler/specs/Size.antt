@@ -86,16 +86,8 @@ module _ (k m : ℕ) where
       2 + 2 * liveBefore bit m c + length (marks k m (λ v. bit v c) m 0) + liveBefore bit m (suc c)
   unfolding column
   column-length bit c =
-      let before = split k m c (liveBefore bit m c) in
-      let rows = marks k m (λ v. bit v c) m 0 in
-      let after = keep k m (ones-in bit m c) (liveBefore bit m (suc c)) in
-      omega (
-        arith,
-        length-append (before ++ rows) after,
-        length-append before rows,
-        length-blocks 2 (apart k m) (λ i. refl) (liveBefore bit m c),
-        length-blocks 1 (carry k m (ones-in bit m c)) (λ i. refl) (liveBefore bit m (suc c)),
-      )
+      simp (length-append, length-blocks 2 (apart k m) (λ i. refl), length-blocks 1 (carry k m (ones-in bit m c)) (λ i. refl))
+      (omega arith)
 
   column-short : (bit : ℕ → ℕ → ℕ) (c : ℕ) → 1 ≤ m → length (column k m bit c) ≤ 2 + 3 * m + sumTo m (λ v. 1 + ones k v)
   column-short bit c h =
@@ -108,18 +100,9 @@ module _ (k m : ℕ) where
         live-le bit m (suc c) h,
       )
 
-  ends-length : length (begin k) + length (end k) ≡ 3 + 2 * k
-  ends-length = omega (arith, length-blocks 1 clear (λ t. refl) k, length-blocks 1 tell (λ t. refl) k)
-
   pub whole-length : (n : ℕ) (bit : ℕ → ℕ → ℕ) →
       length (translationOf k m n bit) ≡ 3 + 2 * k + length (blocks n (column k m bit))
-  whole-length n bit =
-      omega (
-        arith,
-        length-append (begin k ++ blocks n (column k m bit)) (end k),
-        length-append (begin k) (blocks n (column k m bit)),
-        ends-length,
-      )
+  whole-length n bit = simp (length-append, length-blocks 1 clear (λ t. refl), length-blocks 1 tell (λ t. refl)) (omega arith)
 
 -- ---- the set bits of all numbers of k bits
 -- one more bit, from the low end
