@@ -17,11 +17,10 @@ use Rattle.programs.specs.declared.description.Instruction.the-variants.{Ones, 
 use Rattle.walk.specs.Walk.{Place, left, Answer, sample, missed, answerOf, drawn}
 use Rattle.walk.specs.declared.Drawn.{Drawn}
 use Rattle.walk.specs.declared.Drawn.the-variants.{Hit as hit, Miss as miss}
-use Rattle.machine.specs.Meaning.{Gates, bitGates, State, exec}
+use Rattle.machine.specs.Meaning.{Gates, bitGates, State, exec, exec-append}
 use Rattle.machine.specs.Runs.{Ended, startOn}
 use Rattle.machine.specs.Resuming.{wholeRun, start-whole}
 use Rattle.machine.specs.Calls.{cleared, sized-cleared}
-use Rattle.machine.specs.Meaning.{exec-append}
 use Rattle.compiler.specs.Translation.{rowBits, regH, regV, regX, clear, begin, tell, end, liveBefore, column}
 use Rattle.compiler.specs.Translation.{translation, program, compiled}
 use Rattle.compiler.specs.Width.{row-lt}

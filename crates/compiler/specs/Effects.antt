@@ -12,8 +12,7 @@ use Rattle.laws.specs.Lists.{blocks, Each}
 use Rattle.programs.specs.Instructions.{uses}
 use Rattle.programs.specs.declared.description.Instruction.{Instruction}
 use Rattle.programs.specs.declared.description.Instruction.the-variants.{Ones, Zero, Input, Not, And, Or, Output}
-use Rattle.machine.specs.Meaning.{bitGates, State, step, exec, exec-long}
-use Rattle.machine.specs.Meaning.{exec-append}
+use Rattle.machine.specs.Meaning.{bitGates, State, step, exec, exec-long, exec-append}
 
 -- what a register and an output hold
 abbrev pub reg : ℕ → State ℕ → ℕ

@@ -3,9 +3,9 @@
 use Prim.Native.Nat.{ℕ, zero, suc, _+_, _*_, _/_, _%_, _^_, _≤_, _<_}
 use mathlib.Core.Path.{_≡_, refl}
 use mathlib.Core.List.{List, [], _∷_, _++_}
-use mathlib.Core.Logic.{_⊎_, inl, inr, ⊎-elim}
-use native.Mathlib.Nat.{eq-or-lt-of-le}
+use mathlib.Core.Logic.{_⊎_, inl, inr, ⊎-elim, ⊎-map}
 use native.Mathlib.Omega.{arith}
+use Rattle.laws.specs.Tests.{lt-or-ge}
 use Rattle.laws.specs.Lists.{blocks, Each, each-blocks}
 use Rattle.files.specs.Matrix.{ones-in}
 use Rattle.programs.specs.Instructions.{uses}
@@ -24,15 +24,13 @@ Spans a b c d r = ((a ≤ r) × (r < b)) ⊎ ((c ≤ r) × (r < d))
 -- a span that grew by one at its end
 first-grown : (a b b′ c d r : ℕ) → b′ ≤ suc b → Spans a b′ c d r → OneOf (b ∷ []) r ⊎ Spans a b c d r
 first-grown a b b′ c d r h (inl x) =
-    let l : suc r ≤ suc b = omega arith in
-    ⊎-elim (λ (q : suc r ≡ suc b). inl (inl (omega arith))) (λ (q : suc r < suc b). inr (inl (omega arith))) (eq-or-lt-of-le l)
+    ⊎-elim (λ (q : r < b). inr (inl (omega arith))) (λ (q : b ≤ r). inl (inl (omega arith))) (lt-or-ge r b)
 first-grown a b b′ c d r h (inr x) = inr (inr x)
 
 second-grown : (a b c d d′ r : ℕ) → d′ ≤ suc d → Spans a b c d′ r → OneOf (d ∷ []) r ⊎ Spans a b c d r
 second-grown a b c d d′ r h (inl x) = inr (inl x)
 second-grown a b c d d′ r h (inr x) =
-    let l : suc r ≤ suc d = omega arith in
-    ⊎-elim (λ (q : suc r ≡ suc d). inl (inl (omega arith))) (λ (q : suc r < suc d). inr (inr (omega arith))) (eq-or-lt-of-le l)
+    ⊎-elim (λ (q : r < d). inr (inr (omega arith))) (λ (q : d ≤ r). inl (inl (omega arith))) (lt-or-ge r d)
 
 module _ (k m : ℕ) where
   -- between columns: H, each V, and h of the X
@@ -42,7 +40,7 @@ module _ (k m : ℕ) where
   -- ---- the beginning
   begin-held : (r : ℕ) → Held 1 r → Spans 2 (3 + k) (regX k 0) (regX k 1) r
   begin-held r x =
-      ⊎-elim (λ (q : suc r ≡ regX k 1). inr (omega arith)) (λ (q : suc r < regX k 1). inl (omega arith)) (eq-or-lt-of-le (x .1))
+      ⊎-elim (λ (q : r < 3 + k). inl (omega arith)) (λ (q : 3 + k ≤ r). inr (omega arith)) (lt-or-ge r (3 + k))
 
   zeros-ready : Ready (Spans 2 3 (regX k 0) (regX k 1)) (blocks k clear) (Spans 2 (3 + k) (regX k 0) (regX k 1))
   zeros-ready =
@@ -77,10 +75,8 @@ module _ (k m : ℕ) where
       (inl (omega arith), (inl (omega arith), tt)),
       (
         (inr (inl (omega arith)), (inr (inl (omega arith)), tt)),
-        (λ r x. ⊎-elim
-            (λ (q : OneOf (regY k m (2 * i + 1) ∷ []) r). inl q)
-            (λ (y : Open (2 * i + 1) r).
-            inr (second-grown 0 (regX k h) (regY k m 0) (regY k m (2 * i)) (regY k m (2 * i + 1)) r (omega arith) y))
+        (λ r x. ⊎-map (λ y. y)
+            (second-grown 0 (regX k h) (regY k m 0) (regY k m (2 * i)) (regY k m (2 * i + 1)) r (omega arith))
             (second-grown 0 (regX k h) (regY k m 0) (regY k m (2 * i + 1)) (regY k m (2 * suc i)) r (omega arith) x)),
       ),
     )

@@ -2,7 +2,8 @@
 use borrow.Author.Needs.{needs}
 use native.Mathlib.Omega.{arith}
 use Prim.Native.Nat.{_-_, _≤_}
-use Rattle.compiler.specs.EmittingColumns.{packedRows, row-fits, Marked, marked-none, marked-more, marked-done, mark-few, ones-few}
+use lib.Count.{ones-le}
+use Rattle.compiler.specs.EmittingColumns.{packedRows, row-fits, Marked, marked-none, marked-more, marked-done, mark-few}
 use Rattle.compiler.proofs.sizes.count_marks.Statement.{statement}
 use Rattle.compiler.proofs.sizes.count_marks.Tie as tie
 
@@ -20,10 +21,10 @@ mul-bit : tie.Need-mul-bit Inv-loop μ-loop
 mul-bit c = record { fits = row-fits _ _ (search needs) (search needs) }
 
 cast-instructions : tie.Need-cast-instructions Inv-loop μ-loop
-cast-instructions c = record { fits = omega (arith, ones-few (c .before .before .loop .v) (omega arith)) }
+cast-instructions c = record { fits = omega (arith, ones-le 64 (c .before .before .loop .v) (omega arith)) }
 
 add-instructions : tie.Need-add-instructions Inv-loop μ-loop
-add-instructions c = record { fits = omega (arith, ones-few (c .before .before .loop .v) (omega arith)) }
+add-instructions c = record { fits = omega (arith, ones-le 64 (c .before .before .loop .v) (omega arith)) }
 
 mul-instructions : tie.Need-mul-instructions Inv-loop μ-loop
 mul-instructions c =
