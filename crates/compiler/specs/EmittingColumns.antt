@@ -132,7 +132,7 @@ columns-more {bit} {m} {n} {c} {h} {w} {instructions} {h′} {count} few ok l s 
       passed = omega arith;
       live = p .after;
       is =
-          rw (blocks-more c (column k m bit))
+          simp (blocks-more c (column k m bit), length-append, column-length)
           (omega (
             arith,
             s .is,
@@ -141,8 +141,6 @@ columns-more {bit} {m} {n} {c} {h} {w} {instructions} {h′} {count} few ok l s 
             ap (liveBefore bit m) (add-one c),
             p .counted .marking,
             marks-count k m (λ v. bit v c) m ok (row-lt m),
-            length-append (blocks c (column k m bit)) (column k m bit c),
-            column-length k m bit c,
           ));
       few = omega (arith, s .few, s .live .few, p .counted .fewer, p .after .few);
     }

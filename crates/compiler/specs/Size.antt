@@ -13,7 +13,7 @@ use Rattle.laws.specs.Lists.{blocks, length-blocks, Each, each-blocks}
 use Rattle.files.specs.Matrix.{ones-in}
 use Rattle.programs.specs.Instructions.{lengthOf}
 use Rattle.programs.specs.declared.description.Instruction.{Instruction}
-use Rattle.compiler.specs.Translation.{clear, begin, apart, split, ifSet, spell, mark, marks, carry, keep, tell, end}
+use Rattle.compiler.specs.Translation.{clear, begin, apart, ifSet, spell, mark, marks, carry, keep, tell, end}
 use Rattle.compiler.specs.Translation.{liveBefore, column, translationOf}
 use Rattle.compiler.specs.Room.{live-le}
 use Rattle.compiler.specs.Ranges.{each-if, each-marks}
