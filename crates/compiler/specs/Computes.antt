@@ -25,7 +25,7 @@ use Rattle.compiler.specs.Translation.{rowBits, regH, regV, regX, clear,
 use Rattle.compiler.specs.Translation.{translation, program, compiled}
 use Rattle.compiler.specs.Width.{row-lt}
 use Rattle.compiler.specs.Room.{Roomy, accepted-roomy}
-use Rattle.compiler.specs.Compiled.{compiledCode, inputs-are, registers-are, outputs-are, compiled-accepted}
+use Rattle.compiler.specs.Compiled.{compiledCode, inputs-are, compiled-accepted}
 use Rattle.compiler.specs.Places.{hitBit, sampleBit, answerAt, same, isAt, placeAfter, walk-answer, below-answer, place-below}
 use Rattle.compiler.specs.Effects.{reg, out, Passes, run, still-long, still-wide, writes-first, output-first}
 use Rattle.compiler.specs.Effects.{blocks-still, blocks-leave, blocks-pass, blocks-lead}
@@ -121,12 +121,10 @@ module _ (M : Matrix) (inputs : List ℕ) where
   came-answer = walk-answer (bit M) (M .rows) (λ i. getD inputs i 0) (M .columns)
 
   -- a row that it draws is one of the m, so its number has k bits
-  pub row-drawn : (v : ℕ) → answerOf (drawn M (laneInputs M inputs)) ≡ sample v → v < M .rows
-  row-drawn v e =
-      below-answer (M .rows) v came (sym came-answer ∙ e) (place-below (bit M) (M .rows) (λ i. getD inputs i 0) (M .columns))
-
-  pub row-spelled : (v : ℕ) → answerOf (drawn M (laneInputs M inputs)) ≡ sample v → v < 2 ^ rowBits (M .rows)
-  row-spelled v e = row-lt (M .rows) v (row-drawn v e)
+  row-spelled : (v : ℕ) → answerOf (drawn M (laneInputs M inputs)) ≡ sample v → v < 2 ^ rowBits (M .rows)
+  row-spelled v e =
+      row-lt (M .rows) v
+      (below-answer (M .rows) v came (sym came-answer ∙ e) (place-below (bit M) (M .rows) (λ i. getD inputs i 0) (M .columns)))
 
 -- ---- the theorems: for an accepted matrix, a lane of bits, registers and outputs at least as many as the header names, anything in them
 -- before
@@ -141,15 +139,15 @@ module _ (M : Matrix) (a : Accepted M) (inputs : List ℕ) (ok : (c : ℕ) → c
 
   -- output 0 says whether the walk hits, and outputs 1 and up the bits of the row that it hits, lowest first
   pub computes : (ends 0 ≡ hitBit (answerOf draws)) × ((t : ℕ) → t < rowBits (M .rows) → ends (1 + t) ≡ sampleBit t (answerOf draws))
-  unfolding translation
+  unfolding translation program
   computes =
       let k : ℕ = rowBits (M .rows) in
       let m : ℕ = M .rows in
       let before = begin k ++ blocks (M .columns) (column k m (bit M)) in
       let s′ : State ℕ = run inputs before s in
-      let wide′ : 1 + k ≤ length (s′ .outputs) = still-wide inputs before s (1 + k) (rw (outputs-are M) at wide) in
+      let wide′ : 1 + k ≤ length (s′ .outputs) = still-wide inputs before s (1 + k) wide in
       let here : Stands k m (liveBefore (bit M) m (M .columns)) (came M inputs) s′ =
-      columns-run inputs k m (M .columns) (bit M) (accepted-roomy M a) ok s (rw (registers-are M) at long) in
+      columns-run inputs k m (M .columns) (bit M) (accepted-roomy M a) ok s long in
       rw (exec-append bitGates inputs before (end k) s, came-answer M inputs) (
         end-hit inputs k m s′ wide′ ∙ here .tells .atH,
         (λ t l. end-row inputs k m s′ wide′ t l ∙ here .tells .atV t l),

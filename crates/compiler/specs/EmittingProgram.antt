@@ -161,22 +161,16 @@ pub program-written : {bytes : List ℕ} {m n k count long : ℕ} {p : Program} 
 unfolding programFile
 program-written {bytes} {m} {n} {k} {count} buf {head = head} {now = now} s l q e a b c =
     let first : List ℕ = headerBytes (described k m n count) in
-    let long = header-long (described k m n count) in
     let code : List ℕ = codeBytes (translationOf k m n (rowsOf bytes n)) in
+    let bytes-first = header-long (described k m n count) in
     let written = emitted-after (emitted-after a b) c in
     let is : head ≡ lay first buf =
     rw (q, write-header-gives (described k m n count) (length buf) (l .limits) (omega (arith, l .parts))) at e in
+    let long : length head ≡ length buf = ap length is ∙ length-lay first buf (omega (arith, l .parts)) in
     rw (compiled-packed (s .counts))
     (laid-after 0 header-length first code buf head now (omega arith)
-    (omega (
-      arith,
-      length-code (translationOf k m n (rowsOf bytes n)),
-      written .behind,
-      written .room,
-      ap length is,
-      length-lay first buf (omega (arith, l .parts)),
-    )) (written .laid .is)
-    (record { long = ap length is ∙ length-lay first buf (omega (arith, l .parts)); is = is ∙ sym (lay-is first buf) }) .is ∙
+    (omega (arith, length-code (translationOf k m n (rowsOf bytes n)), written .behind, written .room)) (written .laid .is)
+    (record { long = long; is = is ∙ sym (lay-is first buf) }) .is ∙
     lay-is (first ++ code) buf)
 
 -- ---- the ways through the checks

@@ -9,9 +9,9 @@ use Rattle.laws.specs.Sums.{sumTo}
 use Rattle.laws.specs.Lists.{blocks, Each, each-append, each-blocks}
 use Rattle.files.specs.Matrix.{ones-in}
 use Rattle.programs.specs.declared.description.Instruction.{Instruction}
-use Rattle.programs.specs.declared.description.Instruction.the-variants.{Output}
+use Rattle.programs.specs.declared.description.Instruction.the-variants.{Or, Output}
 use Rattle.checker.specs.Accepting.{Fits, Sets, sets-left, sets-right}
-use Rattle.compiler.specs.Translation.{regV, clear, begin, apart, split, ifSet, spell, mark, marks}
+use Rattle.compiler.specs.Translation.{regH, regV, regY, clear, begin, apart, split, ifSet, spell, mark, marks}
 use Rattle.compiler.specs.Translation.{carry, keep, tell, end, liveBefore, column, translationOf}
 use Rattle.compiler.specs.Room.{Roomy, live-le, live-next}
 
@@ -23,14 +23,17 @@ module _ (P : Instruction → Type 0) where
   each-if zero is e = tt
   each-if (suc b) is e = e (omega arith)
 
-  -- of the rows' marks, if it holds of the mark of each set row
-  pub each-marks : (k m n : ℕ) → ((v j : ℕ) → j < n → Each P (mark k m v j)) → (bits : ℕ → ℕ) (r j : ℕ) → sumTo r bits + j ≤ n →
-      Each P (marks k m bits r j)
+  -- of the rows' marks, if it holds of the instructions of each set row
+  pub each-marks : (k m n : ℕ) →
+      ((j : ℕ) → j < n → P (Or regH regH (regY k m j)) × ((t : ℕ) → t < k → P (Or (regV t) (regV t) (regY k m j)))) →
+      (bits : ℕ → ℕ) (r j : ℕ) → sumTo r bits + j ≤ n → Each P (marks k m bits r j)
   unfolding marks sumTo
   each-marks k m n f bits zero j h = tt
   each-marks k m n f bits (suc r) j h =
       each-append P (ifSet (bits r) (mark k m r j)) (marks k m bits r (j + bits r))
-      (each-if (bits r) (mark k m r j) (λ l. f r j (omega arith)))
+      (each-if (bits r) (mark k m r j)
+      (λ l. let p = f j (omega arith) in
+      (p .0, each-blocks P (spell k m r j) k (λ t u. each-if (r / 2 ^ t % 2) _ (λ b. (p .1 t u, tt))))))
       (each-marks k m n f bits r (j + bits r) (omega arith))
 
 -- ---- operands
@@ -53,7 +56,7 @@ module _ (k m n : ℕ) where
         (each-append In before rows
         (omega arith, (omega arith, each-blocks In (apart k m) (liveBefore bit m c) (λ i l. omega arith)))
         (each-marks In k m (2 * m)
-        (λ v j l. (omega arith, each-blocks In (spell k m v j) k (λ t h. each-if In (v / 2 ^ t % 2) _ (λ b. omega arith))))
+        (λ j l. (omega arith, (λ t u. omega arith)))
         (λ v. bit v c) m 0 (omega arith)))
         (each-blocks In (carry k m w) (liveBefore bit m (suc c)) (λ i l. omega arith))
 

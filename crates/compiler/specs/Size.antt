@@ -16,7 +16,7 @@ use Rattle.programs.specs.declared.description.Instruction.{Instruction}
 use Rattle.compiler.specs.Translation.{clear, begin, apart, ifSet, spell, mark, marks, carry, keep, tell, end}
 use Rattle.compiler.specs.Translation.{liveBefore, column, translationOf}
 use Rattle.compiler.specs.Room.{live-le}
-use Rattle.compiler.specs.Ranges.{each-if, each-marks}
+use Rattle.compiler.specs.Ranges.{each-marks}
 
 -- the set bits among the k low bits of v
 unfoldable pub ones : ℕ → ℕ → ℕ
@@ -210,14 +210,12 @@ module _ (k m : ℕ) (bit : ℕ → ℕ → ℕ) where
       let h : ℕ = liveBefore bit m c in
       let w : ℕ = ones-in bit m c in
       let g : ℕ = liveBefore bit m (suc c) in
-      let mark-tens : (v j : ℕ) → Each Ten (mark k m v j) =
-      λ v j. (refl, each-blocks Ten (spell k m v j) k (λ t l. each-if Ten (v / 2 ^ t % 2) _ (λ b. (refl, tt)))) in
       simp (size-append, length-append)
       (omega (
         arith,
         tens (blocks h (apart k m)) (each-blocks Ten (apart k m) h (λ i l. (refl, (refl, tt)))),
         tens (marks k m (λ v. bit v c) m 0)
-            (each-marks Ten k m (sumTo m (λ v. bit v c) + 0) (λ v j l. mark-tens v j) (λ v. bit v c) m 0 (omega arith)),
+            (each-marks Ten k m (sumTo m (λ v. bit v c) + 0) (λ j l. (refl, (λ t u. refl))) (λ v. bit v c) m 0 (omega arith)),
         tens (keep k m w g) (each-blocks Ten (carry k m w) g (λ i l. (refl, tt))),
       ))
 
