@@ -1,7 +1,6 @@
 -- What is compiled is always an accepted program. Assumes nothing.
 use Prim.Native.Nat.{ℕ, _+_, _*_, _≤_}
 use mathlib.Core.Path.{_≡_, refl, sym, ap, _∙_}
-use mathlib.Core.Bool.{true}
 use mathlib.Core.List.{List, _++_}
 use native.Mathlib.Omega.{arith}
 use borrow.Author.Tests.{le-leb, ltb-false}
@@ -12,7 +11,7 @@ use Rattle.laws.specs.Outcome.{gives, passed, bound, gives-inj}
 use Rattle.files.specs.Matrix.{Matrix, Accepted, bit}
 use Rattle.files.specs.Files.{matrixOf}
 use Rattle.files.specs.RoundTrip.{read-accepted}
-use Rattle.programs.specs.Limits.{most-registers, most-inputs, most-outputs, most-instructions, within}
+use Rattle.programs.specs.Limits.{most-registers, most-inputs, most-outputs, most-instructions}
 use Rattle.programs.specs.Reading.{among-limits}
 use Rattle.checker.specs.Checks.{Code, checkOf}
 use Rattle.checker.specs.Accepting.{Sound, accepted}

@@ -63,7 +63,7 @@ mark-few v b h l = omega (arith, bit-times b (1 + Count.ones v) l, Count.ones-le
 
 pub marked-more : {bits : ℕ → ℕ} {v rows instructions b : ℕ} → b ≡ bits v → b < 2 → v < 2 ^ 64 → Marked bits v rows instructions →
     Marked bits (v + 1) (rows + b) (instructions + b * (1 + Count.ones v))
-marked-more {bits} {v} {rows} {instructions} {b} e l h s =
+marked-more {bits} {v} {b = b} e l h s =
     record {
       set = rw (sum-more v bits) (omega (arith, s .set));
       marking = rw (sum-more v (λ v. bits v * (1 + Count.ones v)), ← e) (omega (arith, s .marking));
@@ -126,7 +126,7 @@ columns-none bit m n h = record { passed = omega arith; live = live-first bit m 
 pub columns-more : {bit : ℕ → ℕ → ℕ} {m n c h w instructions h′ count : ℕ} → m ≤ most-rows → ((v : ℕ) → v < m → bit v c ≤ 1) →
     c < n → Columns bit m n c h count → Passed bit m c h w instructions h′ →
     Columns bit m n (c + 1) h′ (count + (2 + 2 * h + instructions + h′))
-columns-more {bit} {m} {n} {c} {h} {w} {instructions} {h′} {count} few ok l s p =
+columns-more {bit} {m} {c = c} few ok l s p =
     let k : ℕ = rowBits m in
     record {
       passed = omega arith;
@@ -147,7 +147,7 @@ columns-more {bit} {m} {n} {c} {h} {w} {instructions} {h′} {count} few ok l s 
 
 pub columns-done : {bit : ℕ → ℕ → ℕ} {m n c h count : ℕ} → n ≤ c → Columns bit m n c h count →
     count ≡ length (blocks n (column (rowBits m) m bit))
-columns-done {bit} {m} {n} {c} {h} {count} l s =
+columns-done {bit} {m} {n} {c} {count = count} l s =
     reached (λ x. count ≡ length (blocks x (column (rowBits m) m bit))) c n (s .passed) l (s .is)
 
 -- ---- a loop over the rows of a column, from m - 1 down: all have room, i of them are passed, j of them set

@@ -1,6 +1,6 @@
 -- No register of the translation is read before an instruction has written it. The registers that are written are followed as two spans of
 -- numbers: from B, N or H up into the X, and the first of the Y. Assumes nothing.
-use Prim.Native.Nat.{ℕ, zero, suc, _+_, _*_, _/_, _%_, _^_, _≤_, _<_}
+use Prim.Native.Nat.{ℕ, zero, suc, _+_, _*_, _≤_, _<_}
 use mathlib.Core.Path.{refl}
 use mathlib.Core.List.{List, [], _∷_, _++_}
 use mathlib.Core.Logic.{_⊎_, inl, inr, ⊎-elim, ⊎-map}
@@ -22,14 +22,14 @@ abbrev Spans : ℕ → ℕ → ℕ → ℕ → ℕ → Type 0
 Spans a b c d r = ((a ≤ r) × (r < b)) ⊎ ((c ≤ r) × (r < d))
 
 -- a span that grew by one at its end
-first-grown : (a b b′ c d r : ℕ) → b′ ≤ suc b → Spans a b′ c d r → OneOf (b ∷ []) r ⊎ Spans a b c d r
-first-grown a b b′ c d r h (inl x) =
+first-grown : {a b b′ c d r : ℕ} → b′ ≤ suc b → Spans a b′ c d r → OneOf (b ∷ []) r ⊎ Spans a b c d r
+first-grown {b = b} {r = r} h (inl x) =
     ⊎-elim (λ (q : r < b). inr (inl (omega arith))) (λ (q : b ≤ r). inl (inl (omega arith))) (lt-or-ge r b)
-first-grown a b b′ c d r h (inr x) = inr (inr x)
+first-grown h (inr x) = inr (inr x)
 
-second-grown : (a b c d d′ r : ℕ) → d′ ≤ suc d → Spans a b c d′ r → OneOf (d ∷ []) r ⊎ Spans a b c d r
-second-grown a b c d d′ r h (inl x) = inr (inl x)
-second-grown a b c d d′ r h (inr x) =
+second-grown : {a b c d d′ r : ℕ} → d′ ≤ suc d → Spans a b c d′ r → OneOf (d ∷ []) r ⊎ Spans a b c d r
+second-grown h (inl x) = inr (inl x)
+second-grown {d = d} {r = r} h (inr x) =
     ⊎-elim (λ (q : r < d). inr (inr (omega arith))) (λ (q : d ≤ r). inl (inl (omega arith))) (lt-or-ge r d)
 
 module _ (k m : ℕ) where
@@ -53,7 +53,7 @@ module _ (k m : ℕ) where
               (λ r x. ⊎-elim (λ (q : r < 3 + k). inl (omega arith)) (λ (q : 3 + k ≤ r). inr (omega arith)) (lt-or-ge r (3 + k)))
               (ready-more zeros (upTo 0) _ (upTo k) begun
               (ready-blocks upTo clear k
-              (λ t l. (tt, (λ r x. first-grown 2 (3 + t) (3 + suc t) (regX k 0) (regX k 1) r (omega arith) x))))),
+              (λ t l. (tt, (λ r x. first-grown (omega arith) x))))),
         ),
       )
 
@@ -75,8 +75,8 @@ module _ (k m : ℕ) where
       (
         (inr (inl (omega arith)), (inr (inl (omega arith)), tt)),
         (λ r x. ⊎-map (λ y. y)
-            (second-grown 0 (regX k h) (regY k m 0) (regY k m (2 * i)) (regY k m (2 * i + 1)) r (omega arith))
-            (second-grown 0 (regX k h) (regY k m 0) (regY k m (2 * i + 1)) (regY k m (2 * suc i)) r (omega arith) x)),
+            (second-grown (omega arith))
+            (second-grown (omega arith) x)),
       ),
     )
 
@@ -101,7 +101,7 @@ module _ (k m : ℕ) where
         (ready-blocks Kept (carry k m w) g
         (λ i u. (
           (inr (omega arith), (inr (omega arith), tt)),
-          (λ r x. first-grown 0 (regX k i) (regX k (suc i)) (regY k m 0) (regY k m (2 * h)) r (omega arith) x),
+          (λ r x. first-grown (omega arith) x),
         ))))
 
   module _ (n : ℕ) (bit : ℕ → ℕ → ℕ) (roomy : Roomy m n bit) where
