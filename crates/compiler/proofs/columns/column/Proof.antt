@@ -40,4 +40,4 @@ returns c =
 pub column-spec : {M : Type 1} → statement M
 column-spec =
     tie.close
-    (tie.spec (λ c κs. search needs) split-requires marks-requires keep-requires (λ c. search needs) returns)
+    (tie.spec (search needs) split-requires marks-requires keep-requires (search needs) returns)

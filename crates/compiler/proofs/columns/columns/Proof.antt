@@ -45,5 +45,5 @@ returns c = parts-done (c .before .loop .inv .1) (c .loop-test .left)
 pub columns-spec : {M : Type 1} → statement M
 columns-spec =
     tie.close
-    (tie.spec Inv-loop μ-loop loop-holds column-requires (λ c. search needs) (λ c. search needs) loop-again
-    (λ c. search needs) returns)
+    (tie.spec Inv-loop μ-loop loop-holds column-requires (search needs) (search needs) loop-again
+    (search needs) returns)

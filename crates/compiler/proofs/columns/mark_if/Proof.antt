@@ -16,4 +16,4 @@ returns-2 c =
     if-emitted _ _ (called .before .before .if1 .left) (called .mark .ensures)
 
 pub mark-if-spec : {M : Type 1} → statement M
-mark-if-spec = tie.close (tie.spec returns mark-requires (λ c. search needs) returns-2)
+mark-if-spec = tie.close (tie.spec returns mark-requires (search needs) returns-2)

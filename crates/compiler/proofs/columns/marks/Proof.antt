@@ -40,6 +40,6 @@ returns c = rows-done (c .before .loop .inv) (c .loop-test .left)
 pub marks-spec : {M : Type 1} → statement M
 marks-spec =
     tie.close
-    (tie.spec Inv-loop μ-loop loop-holds (λ c. search needs) (λ c. search needs) mul-bit (λ c κs. search needs)
-    (λ c. search needs) mark-if-requires (λ c. search needs) (λ c. search needs) (λ c. search needs) loop-again
+    (tie.spec Inv-loop μ-loop loop-holds (search needs) (search needs) mul-bit (search needs)
+    (search needs) mark-if-requires (search needs) (search needs) (search needs) loop-again
     same-length returns)

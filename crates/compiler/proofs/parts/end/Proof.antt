@@ -33,6 +33,6 @@ returns c = emitted-after (c .before .before .before .before .put .ensures) (par
 pub end-spec : {M : Type 1} → statement M
 end-spec =
     tie.close
-    (tie.spec Inv-loop μ-loop (λ c κs. search needs) loop-holds (λ c. search needs) (λ c. search needs)
-    (λ c κs. search needs) put-requires-2 (λ c. search needs) (λ c. search needs) loop-again (λ c. search needs)
+    (tie.spec Inv-loop μ-loop (search needs) loop-holds (search needs) (search needs)
+    (search needs) put-requires-2 (search needs) (search needs) loop-again (search needs)
     returns)

@@ -34,5 +34,5 @@ returns c = parts-done (c .before .loop .inv) (c .loop-test .left)
 pub keep-spec : {M : Type 1} → statement M
 keep-spec =
     tie.close
-    (tie.spec Inv-loop μ-loop loop-holds (λ c κs. search needs) (λ c. search needs) (λ c κs. search needs)
-    put-requires (λ c. search needs) (λ c. search needs) loop-again (λ c. search needs) returns)
+    (tie.spec Inv-loop μ-loop loop-holds (search needs) (search needs) (search needs)
+    put-requires (search needs) (search needs) loop-again (search needs) returns)

@@ -16,4 +16,4 @@ returns-2 c =
     if-emitted _ _ (called .before .before .if1 .left) (called .put .ensures)
 
 pub put-if-spec : {M : Type 1} → statement M
-put-if-spec = tie.close (tie.spec returns put-requires (λ c. search needs) returns-2)
+put-if-spec = tie.close (tie.spec returns put-requires (search needs) returns-2)

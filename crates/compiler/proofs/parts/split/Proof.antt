@@ -33,5 +33,5 @@ returns c =
 pub split-spec : {M : Type 1} → statement M
 split-spec =
     tie.close
-    (tie.spec Inv-loop μ-loop (λ c. search needs) (λ c κs. search needs) (λ c κs. search needs) loop-holds
-    apart-requires (λ c. search needs) (λ c. search needs) loop-again (λ c. search needs) returns)
+    (tie.spec Inv-loop μ-loop (search needs) (search needs) (search needs) loop-holds
+    apart-requires (search needs) (search needs) loop-again (search needs) returns)

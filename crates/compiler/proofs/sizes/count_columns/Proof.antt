@@ -36,6 +36,6 @@ returns c = columns-done (c .loop-test .left) (c .before .loop .inv)
 pub count-columns-spec : {M : Type 1} → statement M
 count-columns-spec =
     tie.close
-    (tie.spec Inv-loop μ-loop loop-holds count-column-requires (λ c. search needs) (λ c. search needs)
-    (λ c. search needs) (λ c. search needs) (λ c. search needs) (λ c. search needs) (λ c. search needs) loop-again
+    (tie.spec Inv-loop μ-loop loop-holds count-column-requires (search needs) (search needs)
+    (search needs) (search needs) (search needs) (search needs) (search needs) loop-again
     returns)

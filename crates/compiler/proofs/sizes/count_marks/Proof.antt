@@ -45,6 +45,6 @@ returns c =
 pub count-marks-spec : {M : Type 1} → statement M
 count-marks-spec =
     tie.close
-    (tie.spec Inv-loop μ-loop loop-holds mul-bit (λ c κs. search needs) (λ c. search needs) (λ c. search needs)
-    cast-instructions add-instructions mul-instructions add-instructions-2 (λ c. search needs) (λ c. search needs)
+    (tie.spec Inv-loop μ-loop loop-holds mul-bit (search needs) (search needs) (search needs)
+    cast-instructions add-instructions mul-instructions add-instructions-2 (search needs) (search needs)
     loop-again returns)
