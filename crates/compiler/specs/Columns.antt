@@ -2,27 +2,25 @@
 use Prim.Native.Nat.{ℕ, zero, suc, _+_, _*_, _-_, _/_, _%_, _^_, _≤_, _<_, min, max}
 use mathlib.Core.Path.{_≡_, refl, ap, ap₂, _∙_, subst}
 use mathlib.Core.List.{List, [], _∷_, _++_}
-use mathlib.Core.Logic.{_≢_, ⊎-elim}
+use mathlib.Core.Logic.{_≢_}
 use native.Mathlib.Nat.{add-zero}
 use native.Mathlib.Numerals.{add-one}
 use native.Mathlib.Omega.{arith}
 use lib.ListN.{length, getD}
-use Rattle.laws.specs.Tests.{lt-or-ge}
 use Rattle.laws.specs.Sums.{sumTo}
 use Rattle.laws.specs.Lists.{blocks, Each, each-blocks}
 use Rattle.files.specs.Matrix.{ones-in}
 use Rattle.programs.specs.declared.description.Instruction.{Instruction}
 use Rattle.programs.specs.declared.description.Instruction.the-variants.{Input, Not, And, Or}
 use Rattle.walk.specs.Walk.{Place, at, scan}
-use Rattle.machine.specs.Meaning.{bitGates, State, exec}
-use Rattle.machine.specs.Meaning.{exec-append}
+use Rattle.machine.specs.Meaning.{bitGates, State, exec, exec-append}
 use Rattle.compiler.specs.Translation.{regB, regN, regH, regV, regX, regY, apart, split, ifSet, spell, mark, marks}
 use Rattle.compiler.specs.Translation.{carry, keep, liveBefore, column}
 use Rattle.compiler.specs.Room.{Roomy, live-le, live-next}
 use Rattle.compiler.specs.Ranges.{each-if}
 use Rattle.compiler.specs.Places.{hitBit, sampleBit, answerAt, isAt, doubled, meeting, onto, doubled-even, doubled-odd}
 use Rattle.compiler.specs.Places.{doubled-answer, meeting-hit, meeting-row, meeting-at, onto-none, onto-clear, onto-set}
-use Rattle.compiler.specs.Effects.{reg, Leaves, run, still-long, run-leaves, writes-first, blocks-leave}
+use Rattle.compiler.specs.Effects.{reg, Leaves, run, still-long, run-leaves, writes-first, blocks-still, blocks-leave}
 
 -- H and the V say what is told of the place o
 pub record Tells (k m : ℕ) (o : Place) (s : State ℕ) : Type 0 where
@@ -39,15 +37,6 @@ pub record Stands (k m h : ℕ) (o : Place) (s : State ℕ) : Type 0 where
 record Scans (k m n j : ℕ) (o : Place) (s : State ℕ) : Type 0 where
   tells : Tells k m o s
   atY : (a i : ℕ) → a ≡ j + i → a < n → reg (regY k m a) s ≡ isAt i o
-
-module _ (P : ℕ → Type 0) where
-  -- a fact of the even and of the odd numbers
-  even-odd : (h : ℕ) → ((i : ℕ) → i < h → P (2 * i)) → ((i : ℕ) → i < h → P (2 * i + 1)) → (j : ℕ) → j < 2 * h → P j
-  even-odd h e o j l =
-      ⊎-elim
-      (λ (q : j % 2 < 1). let is : 2 * (j / 2) ≡ j = omega arith in subst P is (e (j / 2) (omega arith)))
-      (λ (q : 1 ≤ j % 2). let is : 2 * (j / 2) + 1 ≡ j = omega arith in subst P is (o (j / 2) (omega arith)))
-      (lt-or-ge (j % 2) 1)
 
 module _ (inputs : List ℕ) (k m : ℕ) where
   abbrev Long : State ℕ → Type 0
@@ -66,39 +55,37 @@ module _ (inputs : List ℕ) (k m : ℕ) where
         atV = λ t l. run-leaves inputs (regV t) is s (n (regV t) (omega arith) (omega arith)) ∙ (here .atV t l ∙ ap (sampleBit t) e);
       }
 
-  -- ---- the distances split
-  module _ (i : ℕ) (s : State ℕ) (h : i < m) (long : Long s) where
-    apart-even : reg (regY k m (2 * i)) (run inputs (apart k m i) s) ≡ min (reg (regX k i) s) (reg regN s)
-    apart-even =
-        writes-first inputs (And (regY k m (2 * i)) (regX k i) regN) _ s (regY k m (2 * i)) refl (omega arith) (omega arith)
-
-    apart-odd : reg (regY k m (2 * i + 1)) (run inputs (apart k m i) s) ≡ min (reg (regX k i) s) (reg regB s)
+  -- ---- the distances split, by the bit b
+  module _ (b : ℕ) (bit : b ≤ 1) (o : Place) where
+    apart-run : (i d : ℕ) (s : State ℕ) → i < m → Long s → reg regB s ≡ b → reg regN s ≡ 1 - b → reg (regX k i) s ≡ isAt i o →
+        d ≤ 1 → reg (regY k m (2 * i + d)) (run inputs (apart k m i) s) ≡ isAt (2 * i + d) (doubled b o)
     unfolding exec
-    apart-odd =
+    apart-run i zero s h long isB isN isX u =
+        rw add-zero
+        (writes-first inputs (And (regY k m (2 * i)) (regX k i) regN) (And (regY k m (2 * i + 1)) (regX k i) regB ∷ []) s
+        (regY k m (2 * i)) refl (omega arith) (omega arith) ∙
+        (ap₂ min isX isN ∙ doubled-even b i o bit))
+    apart-run i (suc zero) s h long isB isN isX u =
         let one : List Instruction = And (regY k m (2 * i)) (regX k i) regN ∷ [] in
         writes-first inputs (And (regY k m (2 * i + 1)) (regX k i) regB) [] (run inputs one s) (regY k m (2 * i + 1)) refl
         (omega (arith, still one s long)) tt ∙
-        ap₂ min (run-leaves inputs (regX k i) one s (omega arith)) (run-leaves inputs regB one s (omega arith))
+        (ap₂ min (run-leaves inputs (regX k i) one s (omega arith) ∙ isX) (run-leaves inputs regB one s (omega arith) ∙ isB) ∙
+        doubled-odd b i o bit)
+    apart-run i (suc (suc d)) s h long isB isN isX u = absurd (omega arith)
 
-  module _ (h : ℕ) (s : State ℕ) (few : h ≤ m) (long : Long s) where
-    aparts-leave : (n r : ℕ) → r < regY k m 0 → reg r (run inputs (blocks n (apart k m)) s) ≡ reg r s
-    aparts-leave n r l = run-leaves inputs r (blocks n (apart k m)) s (each-blocks (Leaves r) (apart k m) n (λ i u. omega arith))
-
-    module _ (o : Place) (b : ℕ) (bit : b ≤ 1) (isB : reg regB s ≡ b) (isN : reg regN s ≡ 1 - b)
-        (isX : (i : ℕ) → i < h → reg (regX k i) s ≡ isAt i o) where
-      aparts-run : (j : ℕ) → j < 2 * h → reg (regY k m j) (run inputs (blocks h (apart k m)) s) ≡ isAt j (doubled b o)
-      aparts-run =
-          let before : ℕ → State ℕ = λ i. run inputs (blocks i (apart k m)) s in
-          let long′ : (i : ℕ) → Long (before i) = λ i. still (blocks i (apart k m)) s long in
-          even-odd (λ j. reg (regY k m j) (run inputs (blocks h (apart k m)) s) ≡ isAt j (doubled b o)) h
-          (λ i l. blocks-leave inputs (regY k m (2 * i)) (apart k m) s h i l (λ j a c. omega arith) ∙
-          (apart-even i (before i) (omega arith) (long′ i) ∙
-          (ap₂ min (aparts-leave i (regX k i) (omega arith) ∙ isX i l) (aparts-leave i regN (omega arith) ∙ isN) ∙
-          doubled-even b i o bit)))
-          (λ i l. blocks-leave inputs (regY k m (2 * i + 1)) (apart k m) s h i l (λ j a c. omega arith) ∙
-          (apart-odd i (before i) (omega arith) (long′ i) ∙
-          (ap₂ min (aparts-leave i (regX k i) (omega arith) ∙ isX i l) (aparts-leave i regB (omega arith) ∙ isB) ∙
-          doubled-odd b i o bit)))
+    aparts-run : (h : ℕ) (s : State ℕ) → h ≤ m → Long s → reg regB s ≡ b → reg regN s ≡ 1 - b →
+        ((i : ℕ) → i < h → reg (regX k i) s ≡ isAt i o) → (j : ℕ) → j < 2 * h →
+        reg (regY k m j) (run inputs (blocks h (apart k m)) s) ≡ isAt j (doubled b o)
+    aparts-run h s few long isB isN isX j l =
+        let i : ℕ = j / 2 in
+        let before : List Instruction = blocks i (apart k m) in
+        let other : (r : ℕ) → r < regY k m 0 → reg r (run inputs before s) ≡ reg r s =
+        λ r u. blocks-still inputs r (apart k m) s i (λ j a. omega arith) in
+        let e : 2 * i + j % 2 ≡ j = omega arith in
+        subst (λ (j : ℕ). reg (regY k m j) (run inputs (blocks h (apart k m)) s) ≡ isAt j (doubled b o)) e
+        (blocks-leave inputs (regY k m (2 * i + j % 2)) (apart k m) s h i (omega arith) (λ j a c. omega arith) ∙
+        apart-run i (j % 2) (run inputs before s) (omega arith) (still before s long) (other regB (omega arith) ∙ isB)
+        (other regN (omega arith) ∙ isN) (other (regX k i) (omega arith) ∙ isX i (omega arith)) (omega arith))
 
   -- the bit of column c is read
   split-run : (c h : ℕ) (o : Place) (s : State ℕ) → getD inputs c 0 ≤ 1 → h ≤ m → Stands k m h o s →
@@ -121,7 +108,7 @@ module _ (inputs : List ℕ) (k m : ℕ) where
             (λ r a l. (omega arith, (omega arith, each-blocks (Leaves r) (apart k m) h (λ i u. omega arith)))) (doubled-answer b o)
             (here .tells);
         atY = λ a i e l.
-            aparts-run h s′ few (still two s long) o b bit isB isN (λ i u. other i ∙ here .atX i u) a l ∙
+            aparts-run b bit o h s′ few (still two s long) isB isN (λ i u. other i ∙ here .atX i u) a l ∙
             ap (λ (j : ℕ). isAt j (doubled b o)) (omega arith);
       }
 
@@ -130,29 +117,18 @@ module _ (inputs : List ℕ) (k m : ℕ) where
     abbrev orV : ℕ → Instruction
     orV t = Or (regV t) (regV t) (regY k m j)
 
-    if-run : (b t : ℕ) (s : State ℕ) → b ≤ 1 → regV t < length (s .registers) →
-        reg (regV t) (run inputs (ifSet b (orV t ∷ [])) s) ≡ max (reg (regV t) s) (b * reg (regY k m j) s)
+    if-run : (b t x y : ℕ) (s : State ℕ) → b ≤ 1 → regV t < length (s .registers) → reg (regV t) s ≡ x → reg (regY k m j) s ≡ y →
+        reg (regV t) (run inputs (ifSet b (orV t ∷ [])) s) ≡ max x (b * y)
     unfolding exec ifSet
-    if-run zero t s h l = omega arith
-    if-run (suc zero) t s h l = writes-first inputs (orV t) [] s (regV t) refl l tt ∙ omega arith
-    if-run (suc (suc b)) t s h l = absurd (omega arith)
+    if-run zero t x y s h l p q = omega arith
+    if-run (suc zero) t x y s h l p q = writes-first inputs (orV t) [] s (regV t) refl l tt ∙ omega arith
+    if-run (suc (suc b)) t x y s h l p q = absurd (omega arith)
 
     module _ (v : ℕ) where
       rows-leave : (n : ℕ) (s : State ℕ) (r : ℕ) → ((t : ℕ) → t < n → r ≢ regV t) →
           reg r (run inputs (blocks n (spell k m v j)) s) ≡ reg r s
       rows-leave n s r f =
-          run-leaves inputs r (blocks n (spell k m v j)) s
-          (each-blocks (Leaves r) (spell k m v j) n (λ t l. each-if (Leaves r) (v / 2 ^ t % 2) _ (λ b. ((f t l, tt), tt))))
-
-      rows-run : (s : State ℕ) → Long s → (t : ℕ) → t < k →
-          reg (regV t) (run inputs (blocks k (spell k m v j)) s) ≡ max (reg (regV t) s) (v / 2 ^ t % 2 * reg (regY k m j) s)
-      rows-run s long t l =
-          let before : List Instruction = blocks t (spell k m v j) in
-          blocks-leave inputs (regV t) (spell k m v j) s k t l
-          (λ u a b. each-if (Leaves (regV t)) (v / 2 ^ u % 2) _ (λ c. ((omega arith, tt), tt))) ∙
-          (if-run (v / 2 ^ t % 2) t (run inputs before s) (omega arith) (omega (arith, still before s long)) ∙
-          ap₂ (λ (x y : ℕ). max x (v / 2 ^ t % 2 * y)) (rows-leave t s (regV t) (λ u a. omega arith))
-          (rows-leave t s (regY k m j) (λ u a. omega arith)))
+          blocks-still inputs r (spell k m v j) s n (λ t l. each-if (Leaves r) (v / 2 ^ t % 2) _ (λ b. ((f t l, tt), tt)))
 
       mark-run : (n : ℕ) (o : Place) (s : State ℕ) → j < n → Scans k m n j o s →
           Scans k m n (suc j) (meeting v o) (run inputs (mark k m v j) s)
@@ -160,19 +136,23 @@ module _ (inputs : List ℕ) (k m : ℕ) where
       mark-run n o s l here =
           let one : List Instruction = Or regH regH (regY k m j) ∷ [] in
           let s′ : State ℕ = run inputs one s in
-          let long = here .tells .long in
+          let before : ℕ → List Instruction = λ t. blocks t (spell k m v j) in
+          let long = still one s (here .tells .long) in
           let isY : reg (regY k m j) s ≡ isAt 0 o = here .atY j 0 (omega arith) l in
           let other : (r : ℕ) → r ≢ 2 → reg r s′ ≡ reg r s = λ r u. run-leaves inputs r one s ((u, tt), tt) in
           record {
             tells =
                 record {
-                  long = still (blocks k (spell k m v j)) s′ (still one s long);
+                  long = still (before k) s′ long;
                   atH = rows-leave k s′ regH (λ t u. omega arith) ∙
-                      (writes-first inputs (Or regH regH (regY k m j)) [] s regH refl (omega arith) tt ∙
+                      (writes-first inputs (Or regH regH (regY k m j)) [] s regH refl (omega (arith, here .tells .long)) tt ∙
                       (ap₂ max (here .tells .atH) isY ∙ meeting-hit v o));
-                  atV = λ t u. rows-run s′ (still one s long) t u ∙
-                      (ap₂ (λ (x y : ℕ). max x (v / 2 ^ t % 2 * y)) (other (regV t) (omega arith) ∙ here .tells .atV t u)
-                      (other (regY k m j) (omega arith) ∙ isY) ∙
+                  atV = λ t u.
+                      blocks-leave inputs (regV t) (spell k m v j) s′ k t u
+                      (λ w a b. each-if (Leaves (regV t)) (v / 2 ^ w % 2) _ (λ c. ((omega arith, tt), tt))) ∙
+                      (if-run (v / 2 ^ t % 2) t _ _ (run inputs (before t) s′) (omega arith) (omega (arith, still (before t) s′ long))
+                      (rows-leave t s′ (regV t) (λ i a. omega arith) ∙ (other (regV t) (omega arith) ∙ here .tells .atV t u))
+                      (rows-leave t s′ (regY k m j) (λ i a. omega arith) ∙ (other (regY k m j) (omega arith) ∙ isY)) ∙
                       meeting-row v t o);
                 };
             atY = λ a i e u. rows-leave k s′ (regY k m a) (λ t w. omega arith) ∙
@@ -191,14 +171,12 @@ module _ (inputs : List ℕ) (k m : ℕ) where
     unfolding ifSet
     row-run zero r w rows is l does o j s h scans =
         let e : 0 + w + j ≡ w + j = omega arith in
-        rw (e, add-zero j)
-        (subst (λ (q : Place). Scans k m n (w + j) q (run inputs (is j) s)) (onto-clear r o rows) (does o j s (omega arith) scans))
+        rw (e, add-zero j, ← onto-clear r o rows) (does o j s (omega arith) scans)
     row-run (suc zero) r w rows is l does o j s h scans =
         let e : 1 + w + j ≡ w + suc j = omega arith in
         let s′ : State ℕ = run inputs (mark k m r j) s in
-        rw (e, add-one j, exec-append bitGates inputs (mark k m r j) (is (suc j)) s)
-        (subst (λ (q : Place). Scans k m n (w + suc j) q (run inputs (is (suc j)) s′)) (onto-set 0 r o rows)
-        (does (meeting r o) (suc j) s′ (omega arith) (mark-run j r n o s (omega arith) scans)))
+        rw (e, add-one j, exec-append bitGates inputs (mark k m r j) (is (suc j)) s, ← onto-set 0 r o rows)
+        (does (meeting r o) (suc j) s′ (omega arith) (mark-run j r n o s (omega arith) scans))
     row-run (suc (suc b)) r w rows is l does o j s h scans = absurd (omega arith)
 
     marks-run : (ones : ℕ → ℕ) (r : ℕ) → ((v : ℕ) → v < r → ones v ≤ 1) →
@@ -206,33 +184,25 @@ module _ (inputs : List ℕ) (k m : ℕ) where
     unfolding marks scan sumTo exec
     marks-run ones zero ok = λ o j s h scans.
         let e : 0 + j ≡ j = omega arith in
-        rw e (subst (λ (q : Place). Scans k m n j q s) (onto-none o) scans)
+        rw (e, ← onto-none o) scans
     marks-run ones (suc r) ok =
         row-run (ones r) r (sumTo r ones) (λ d. scan ones r d) (λ i. marks k m ones r i) (ok r (omega arith))
         (marks-run ones r (λ v l. ok v (omega arith)))
 
   -- ---- the distances that stay live
-  module _ (w : ℕ) where
-    keeps-leave : (g : ℕ) (r : ℕ) → ((i : ℕ) → i < g → r ≢ regX k i) → Each (Leaves r) (blocks g (carry k m w))
-    keeps-leave g r f = each-blocks (Leaves r) (carry k m w) g (λ i l. ((f i l, tt), tt))
-
-    keeps-run : (g : ℕ) (s : State ℕ) → g ≤ m → Long s → (i : ℕ) → i < g →
-        reg (regX k i) (run inputs (blocks g (carry k m w)) s) ≡ reg (regY k m (w + i)) s
-    keeps-run g s few long i l =
-        let y : ℕ = regY k m (w + i) in
-        let before : List Instruction = blocks i (carry k m w) in
-        blocks-leave inputs (regX k i) (carry k m w) s g i l (λ j a b. omega arith) ∙
-        (writes-first inputs (Or (regX k i) y y) [] (run inputs before s) (regX k i) refl (omega (arith, still before s long)) tt ∙
-        omega (arith, run-leaves inputs y before s (keeps-leave i y (λ j a. omega arith))))
-
-    keep-run : (n g : ℕ) (o : Place) (s : State ℕ) → w + g ≤ n → g ≤ m → Scans k m n w o s →
-        Stands k m g o (run inputs (keep k m w g) s)
-    keep-run n g o s h few here =
-        record {
-          tells =
-              tells-still (blocks g (carry k m w)) s (λ r a l. keeps-leave g r (λ i u. omega arith)) refl (here .tells);
-          atX = λ i l. keeps-run g s few (here .tells .long) i l ∙ here .atY (w + i) i refl (omega arith);
-        }
+  keep-run : (w n g : ℕ) (o : Place) (s : State ℕ) → w + g ≤ n → g ≤ m → Scans k m n w o s →
+      Stands k m g o (run inputs (keep k m w g) s)
+  keep-run w n g o s h few here =
+      let before : ℕ → List Instruction = λ i. blocks i (carry k m w) in
+      record {
+        tells =
+            tells-still (before g) s (λ r a l. each-blocks (Leaves r) (carry k m w) g (λ i u. omega arith)) refl (here .tells);
+        atX = λ i l. let y : ℕ = regY k m (w + i) in
+            blocks-leave inputs (regX k i) (carry k m w) s g i l (λ j a b. omega arith) ∙
+            (writes-first inputs (Or (regX k i) y y) [] (run inputs (before i) s) (regX k i) refl
+            (omega (arith, still (before i) s (here .tells .long))) tt ∙
+            omega (arith, blocks-still inputs y (carry k m w) s i (λ j a. omega arith), here .atY (w + i) i refl (omega arith)));
+      }
 
   -- ---- a column, from the place before it to the place after it
   module _ (n : ℕ) (bit : ℕ → ℕ → ℕ) (roomy : Roomy m n bit) where

@@ -1,7 +1,6 @@
 -- What is compiled is always an accepted program. Assumes nothing.
 use Prim.Native.Nat.{ℕ, _+_, _*_, _≤_}
 use mathlib.Core.Path.{_≡_, refl, sym, ap, _∙_}
-use mathlib.Core.Bool.{true}
 use mathlib.Core.List.{List, _++_}
 use native.Mathlib.Omega.{arith}
 use borrow.Author.Tests.{le-leb, ltb-false}
@@ -12,7 +11,7 @@ use Rattle.laws.specs.Outcome.{gives, passed, bound, gives-inj}
 use Rattle.files.specs.Matrix.{Matrix, Accepted, bit}
 use Rattle.files.specs.Files.{matrixOf}
 use Rattle.files.specs.RoundTrip.{read-accepted}
-use Rattle.programs.specs.Limits.{most-registers, most-inputs, most-outputs, most-instructions, within}
+use Rattle.programs.specs.Limits.{most-registers, most-inputs, most-outputs, most-instructions}
 use Rattle.programs.specs.Reading.{among-limits}
 use Rattle.checker.specs.Checks.{Code, checkOf}
 use Rattle.checker.specs.Accepting.{Sound, accepted}
@@ -33,40 +32,31 @@ module _ (M : Matrix) where
   unfolding program
   inputs-are = refl
 
-  pub registers-are : program M .registers ≡ 3 + rowBits (M .rows) + 3 * M .rows
-  unfolding program
-  registers-are = refl
-
   pub outputs-are : program M .outputs ≡ 1 + rowBits (M .rows)
   unfolding program
   outputs-are = refl
 
 -- ---- the check passes
 module _ (M : Matrix) (a : Accepted M) where
-  within-limits : within (program M) ≡ true
-  unfolding program translation
-  within-limits =
-      let k : ℕ = rowBits (M .rows) in
-      let bits = few-bits (M .rows) (a .some-rows) (a .few-rows) in
-      rw (
-        among-limits most-registers (3 + k + 3 * M .rows) (omega arith) (omega (arith, a .few-rows)),
-        among-limits most-inputs (M .columns) (a .some-columns) (a .few-columns),
-        among-limits most-outputs (1 + k) (omega arith) (omega arith),
-      )
-      (le-leb (length (translationOf k (M .rows) (M .columns) (bit M))) most-instructions
-      (omega (arith, short k (M .rows) (M .columns) (bit M) bits (a .some-rows) (a .few-rows) (a .few-columns))))
-
   pub sound : Sound (program M) (translation M)
   unfolding program translation
   sound =
       let k : ℕ = rowBits (M .rows) in
+      let bits = few-bits (M .rows) (a .some-rows) (a .few-rows) in
       let roomy = accepted-roomy M a in
       record {
-        limits = within-limits;
+        limits =
+            rw (
+              among-limits most-registers (3 + k + 3 * M .rows) (omega arith) (omega (arith, a .few-rows)),
+              among-limits most-inputs (M .columns) (a .some-columns) (a .few-columns),
+              among-limits most-outputs (1 + k) (omega arith) (omega arith),
+            )
+            (le-leb (length (translationOf k (M .rows) (M .columns) (bit M))) most-instructions
+            (omega (arith, short k (M .rows) (M .columns) (bit M) bits (a .some-rows) (a .few-rows) (a .few-columns))));
         counted = refl;
         in-range = in-range k (M .rows) (M .columns) (bit M) roomy;
         written = written-first k (M .rows) (M .columns) (bit M) roomy;
-        all-set = λ o h. all-set k (begin k ++ blocks (M .columns) (column k (M .rows) (bit M))) o h;
+        all-set = all-set k (begin k ++ blocks (M .columns) (column k (M .rows) (bit M)));
       }
 
   pub compiled-accepted : checkOf (compiled M) ≡ gives (compiledCode M)

@@ -4,7 +4,7 @@ use Prim.Native.Nat.{ℕ, _+_, _*_, _/_, _%_, _^_, _≤_, _<_}
 use mathlib.Core.Path.{_≡_, refl, sym, ap, _∙_}
 use mathlib.Core.Bool.{cond}
 use mathlib.Core.List.{List, [], _∷_, _++_}
-use mathlib.Core.Logic.{_≢_, _↔_}
+use mathlib.Core.Logic.{_↔_}
 use native.Mathlib.Omega.{arith}
 use lib.Dec.{eqb}
 use lib.ListN.{length, getD}
@@ -17,19 +17,18 @@ use Rattle.programs.specs.declared.description.Instruction.the-variants.{Ones, 
 use Rattle.walk.specs.Walk.{Place, left, Answer, sample, missed, answerOf, drawn}
 use Rattle.walk.specs.declared.Drawn.{Drawn}
 use Rattle.walk.specs.declared.Drawn.the-variants.{Hit as hit, Miss as miss}
-use Rattle.machine.specs.Meaning.{Gates, bitGates, State, exec}
+use Rattle.machine.specs.Meaning.{Gates, bitGates, State, exec, exec-append}
 use Rattle.machine.specs.Runs.{Ended, startOn}
 use Rattle.machine.specs.Resuming.{wholeRun, start-whole}
 use Rattle.machine.specs.Calls.{cleared, sized-cleared}
-use Rattle.machine.specs.Meaning.{exec-append}
 use Rattle.compiler.specs.Translation.{rowBits, regH, regV, regX, clear, begin, tell, end, liveBefore, column}
 use Rattle.compiler.specs.Translation.{translation, program, compiled}
 use Rattle.compiler.specs.Width.{row-lt}
 use Rattle.compiler.specs.Room.{Roomy, accepted-roomy}
-use Rattle.compiler.specs.Compiled.{compiledCode, inputs-are, registers-are, outputs-are, compiled-accepted}
+use Rattle.compiler.specs.Compiled.{compiledCode, inputs-are, compiled-accepted}
 use Rattle.compiler.specs.Places.{hitBit, sampleBit, answerAt, same, isAt, placeAfter, walk-answer, below-answer, place-below}
-use Rattle.compiler.specs.Effects.{reg, out, Leaves, Passes, run, still-long, still-wide, run-leaves, writes-first, output-first}
-use Rattle.compiler.specs.Effects.{blocks-leave, blocks-pass, blocks-lead}
+use Rattle.compiler.specs.Effects.{reg, out, Passes, run, still-long, still-wide, writes-first, output-first}
+use Rattle.compiler.specs.Effects.{blocks-still, blocks-leave, blocks-pass, blocks-lead}
 use Rattle.compiler.specs.Columns.{Stands, column-run}
 
 -- what 1 + k outputs of a lane give: a sample where output 0 is set, spelled by the others, lowest first (01, "Runs, words, samples")
@@ -52,9 +51,6 @@ given-is k output missed e f b = rw e refl
 
 -- ---- from the beginning of the translation to its outputs
 module _ (inputs : List ℕ) (k m : ℕ) where
-  zeros-leave : (n : ℕ) (s : State ℕ) (r : ℕ) → ((t : ℕ) → t < n → r ≢ regV t) → reg r (run inputs (blocks n clear) s) ≡ reg r s
-  zeros-leave n s r f = run-leaves inputs r (blocks n clear) s (each-blocks (Leaves r) clear n (λ t l. ((f t l, tt), tt)))
-
   -- whatever the registers held
   begin-run : (s : State ℕ) → 1 ≤ m → 3 + k + 3 * m ≤ length (s .registers) → Stands k m 1 (left 0) (run inputs (begin k) s)
   unfolding exec answerAt isAt same
@@ -68,7 +64,7 @@ module _ (inputs : List ℕ) (k m : ℕ) where
         tells =
             record {
               long = still-long inputs (blocks k clear) s′ (3 + k + 3 * m) long₂;
-              atH = zeros-leave k s′ regH (λ t l. omega arith) ∙
+              atH = blocks-still inputs regH clear s′ k (λ t l. omega arith) ∙
                   writes-first inputs (Zero regH) [] (run inputs one s) regH refl (omega arith) tt;
               atV = λ t l. blocks-leave inputs (regV t) clear s′ k t l (λ u a b. ((omega arith, tt), tt)) ∙
                   writes-first inputs (Zero (regV t)) [] (run inputs (blocks t clear) s′) (regV t) refl
@@ -76,7 +72,7 @@ module _ (inputs : List ℕ) (k m : ℕ) where
             };
         atX = λ i l. let e : i ≡ 0 = omega arith in
             rw e
-            (zeros-leave k s′ (regX k 0) (λ t u. omega arith) ∙
+            (blocks-still inputs (regX k 0) clear s′ k (λ t u. omega arith) ∙
             writes-first inputs (Ones (regX k 0)) (Zero regH ∷ []) s (regX k 0) refl (omega arith) ((omega arith, tt), tt));
       }
 
@@ -93,7 +89,7 @@ module _ (inputs : List ℕ) (k m : ℕ) where
       blocks-pass inputs (1 + t) tell s′ k t l (λ u a b. ((omega arith, tt), tt)) ∙
       (output-first inputs (1 + t) (regV t) [] (run inputs (blocks t tell) s′)
       (omega (arith, still-wide inputs (blocks t tell) s′ (1 + k) wide′)) tt ∙
-      run-leaves inputs (regV t) (blocks t tell) s′ (each-blocks (Leaves (regV t)) tell t (λ u a. (tt, tt))))
+      blocks-still inputs (regV t) tell s′ t (λ u a. (tt, tt)))
 
   -- ---- the columns, one after another: the state that the outputs are taken from
   module _ (n : ℕ) (bit : ℕ → ℕ → ℕ) (roomy : Roomy m n bit) (ok : (c : ℕ) → c < n → getD inputs c 0 ≤ 1) where
@@ -125,12 +121,10 @@ module _ (M : Matrix) (inputs : List ℕ) where
   came-answer = walk-answer (bit M) (M .rows) (λ i. getD inputs i 0) (M .columns)
 
   -- a row that it draws is one of the m, so its number has k bits
-  pub row-drawn : (v : ℕ) → answerOf (drawn M (laneInputs M inputs)) ≡ sample v → v < M .rows
-  row-drawn v e =
-      below-answer (M .rows) v came (sym came-answer ∙ e) (place-below (bit M) (M .rows) (λ i. getD inputs i 0) (M .columns))
-
-  pub row-spelled : (v : ℕ) → answerOf (drawn M (laneInputs M inputs)) ≡ sample v → v < 2 ^ rowBits (M .rows)
-  row-spelled v e = row-lt (M .rows) v (row-drawn v e)
+  row-spelled : (v : ℕ) → answerOf (drawn M (laneInputs M inputs)) ≡ sample v → v < 2 ^ rowBits (M .rows)
+  row-spelled v e =
+      row-lt (M .rows) v
+      (below-answer (M .rows) v came (sym came-answer ∙ e) (place-below (bit M) (M .rows) (λ i. getD inputs i 0) (M .columns)))
 
 -- ---- the theorems: for an accepted matrix, a lane of bits, registers and outputs at least as many as the header names, anything in them
 -- before
@@ -145,15 +139,15 @@ module _ (M : Matrix) (a : Accepted M) (inputs : List ℕ) (ok : (c : ℕ) → c
 
   -- output 0 says whether the walk hits, and outputs 1 and up the bits of the row that it hits, lowest first
   pub computes : (ends 0 ≡ hitBit (answerOf draws)) × ((t : ℕ) → t < rowBits (M .rows) → ends (1 + t) ≡ sampleBit t (answerOf draws))
-  unfolding translation
+  unfolding translation program
   computes =
       let k : ℕ = rowBits (M .rows) in
       let m : ℕ = M .rows in
       let before = begin k ++ blocks (M .columns) (column k m (bit M)) in
       let s′ : State ℕ = run inputs before s in
-      let wide′ : 1 + k ≤ length (s′ .outputs) = still-wide inputs before s (1 + k) (rw (outputs-are M) at wide) in
+      let wide′ : 1 + k ≤ length (s′ .outputs) = still-wide inputs before s (1 + k) wide in
       let here : Stands k m (liveBefore (bit M) m (M .columns)) (came M inputs) s′ =
-      columns-run inputs k m (M .columns) (bit M) (accepted-roomy M a) ok s (rw (registers-are M) at long) in
+      columns-run inputs k m (M .columns) (bit M) (accepted-roomy M a) ok s long in
       rw (exec-append bitGates inputs before (end k) s, came-answer M inputs) (
         end-hit inputs k m s′ wide′ ∙ here .tells .atH,
         (λ t l. end-row inputs k m s′ wide′ t l ∙ here .tells .atV t l),

@@ -8,12 +8,11 @@ use native.Mathlib.Nat.{eq-or-lt-of-le, le-of-suc-le-suc}
 use native.Mathlib.Omega.{arith}
 use lib.ListN.{length, getD, set}
 use lib.Seq.{getD-set-same, getD-set-other}
-use Rattle.laws.specs.Lists.{blocks, Each}
+use Rattle.laws.specs.Lists.{blocks, Each, each-blocks}
 use Rattle.programs.specs.Instructions.{uses}
 use Rattle.programs.specs.declared.description.Instruction.{Instruction}
 use Rattle.programs.specs.declared.description.Instruction.the-variants.{Ones, Zero, Input, Not, And, Or, Output}
-use Rattle.machine.specs.Meaning.{bitGates, State, step, exec, exec-long}
-use Rattle.machine.specs.Meaning.{exec-append}
+use Rattle.machine.specs.Meaning.{bitGates, State, step, exec, exec-long, exec-append}
 
 -- what a register and an output hold
 abbrev pub reg : ℕ → State ℕ → ℕ
@@ -81,6 +80,10 @@ module _ (inputs : List ℕ) where
 
   pub run-leaves : (r : ℕ) (is : List Instruction) (s : State ℕ) → Each (Leaves r) is → reg r (run is s) ≡ reg r s
   run-leaves r = run-alone (reg r) (Leaves r) (step-leaves r)
+
+  pub blocks-still : (r : ℕ) (g : ℕ → List Instruction) (s : State ℕ) (n : ℕ) → ((i : ℕ) → i < n → Each (Leaves r) (g i)) →
+      reg r (run (blocks n g) s) ≡ reg r s
+  blocks-still r g s n f = run-leaves r (blocks n g) s (each-blocks (Leaves r) g n f)
 
   pub blocks-leave : (r : ℕ) (g : ℕ → List Instruction) (s : State ℕ) (n i : ℕ) → i < n →
       ((j : ℕ) → i < j → j < n → Each (Leaves r) (g j)) → reg r (run (blocks n g) s) ≡ reg r (run (g i) (run (blocks i g) s))

@@ -1,13 +1,14 @@
 -- Code that writes a program part by part: what it has written, and how one part follows another. Assumes nothing.
 use Prim.Native.Nat.{ℕ, zero, suc, _+_, _*_, _-_, _≤_, _<_}
-use mathlib.Core.Path.{_≡_, refl, sym, subst}
+use mathlib.Core.Path.{_≡_, refl, sym, ap, _∙_}
 use mathlib.Core.List.{List, [], _∷_, _++_, append-assoc, append-nil}
 use mathlib.Core.Logic.{⊎-elim}
 use native.Mathlib.Nat.{eq-or-lt-of-le, le-of-suc-le-suc}
 use native.Mathlib.Omega.{arith}
 use lib.ListN.{length, length-append}
+use Rattle.laws.specs.Tests.{reached}
 use Rattle.laws.specs.Lists.{blocks, blocks-more}
-use Rattle.laws.specs.Lay.{layAt, Laid, laid-none, laid-after}
+use Rattle.laws.specs.Lay.{layAt, length-layAt, Laid, laid-none, laid-after}
 use Rattle.laws.specs.Outcome.{laid}
 use Rattle.programs.specs.Limits.{most-registers, most-outputs}
 use Rattle.programs.specs.Instructions.{lengthOf, instructionBytes, encodeOf}
@@ -73,8 +74,9 @@ emitted-one {at} {i} {long} {buf} {now} k h e =
     let q : now ≡ layAt at (instructionBytes i) buf = rw (encode-gives i at (length buf) fits) at e in
     record {
       laid =
-          rw (append-nil (instructionBytes i))
-          (laid-after at at [] (instructionBytes i) buf buf now (omega arith) (omega (arith, length-instruction i)) q (laid-none at buf));
+          rw (append-nil (instructionBytes i)) (
+          record { long = ap length q ∙ length-layAt at (instructionBytes i) buf (omega (arith, length-instruction i)); is = q }
+          );
       room = omega arith;
       behind = omega arith;
     }
@@ -130,6 +132,4 @@ module _ {f : ℕ → List Instruction} {n at i to : ℕ} {buf now : List ℕ} (
   parts-more h b = record { few = omega arith; space = p .space; so-far = rw (blocks-more i f) (emitted-after (p .so-far) b) }
 
   pub parts-done : n ≤ i → Emitted at (blocks n f) buf now to
-  parts-done h =
-      let e : i ≡ n = omega (arith, p .few) in
-      subst (λ (x : ℕ). Emitted at (blocks x f) buf now to) e (p .so-far)
+  parts-done h = reached (λ x. Emitted at (blocks x f) buf now to) i n (p .few) h (p .so-far)

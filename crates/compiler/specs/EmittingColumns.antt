@@ -1,7 +1,7 @@
 -- Code that counts and writes the columns of a program: how the rows of a column are met, and how one column follows another. Assumes
 -- nothing.
 use Prim.Native.Nat.{ℕ, suc, _+_, _*_, _-_, _^_, _≤_, _<_, min}
-use mathlib.Core.Path.{_≡_, refl, sym, ap, _∙_, subst}
+use mathlib.Core.Path.{_≡_, refl, sym, ap, _∙_}
 use mathlib.Core.List.{List, [], _++_, append-assoc, append-nil}
 use native.Mathlib.Nat.{sub-zero, mul-le-mul}
 use native.Mathlib.Numerals.{add-one}
@@ -9,6 +9,7 @@ use native.Mathlib.Omega.{arith}
 use lib.Count as Count
 use lib.ListN.{length, length-append}
 use Rattle.laws.specs.Sums.{sumTo, sum-more}
+use Rattle.laws.specs.Tests.{reached}
 use Rattle.laws.specs.Lists.{blocks, blocks-more}
 use Rattle.fields.specs.Fields.{bitOf}
 use Rattle.files.specs.Matrix.{most-rows, ones-in}
@@ -57,15 +58,12 @@ pub marked-none : (bits : ℕ → ℕ) → Marked bits 0 0 0
 unfolding sumTo
 marked-none bits = record { set = refl; marking = refl; few = omega arith; fewer = omega arith }
 
-pub ones-few : (v : ℕ) → v < 2 ^ 64 → Count.ones v ≤ 64
-ones-few v h = Count.ones-le 64 v h
-
 pub mark-few : (v b : ℕ) → v < 2 ^ 64 → b < 2 → b * (1 + Count.ones v) ≤ 65
-mark-few v b h l = omega (arith, bit-times b (1 + Count.ones v) l, ones-few v h)
+mark-few v b h l = omega (arith, bit-times b (1 + Count.ones v) l, Count.ones-le 64 v h)
 
 pub marked-more : {bits : ℕ → ℕ} {v rows instructions b : ℕ} → b ≡ bits v → b < 2 → v < 2 ^ 64 → Marked bits v rows instructions →
     Marked bits (v + 1) (rows + b) (instructions + b * (1 + Count.ones v))
-marked-more {bits} {v} {rows} {instructions} {b} e l h s =
+marked-more {bits} {v} {b = b} e l h s =
     record {
       set = rw (sum-more v bits) (omega (arith, s .set));
       marking = rw (sum-more v (λ v. bits v * (1 + Count.ones v)), ← e) (omega (arith, s .marking));
@@ -75,9 +73,7 @@ marked-more {bits} {v} {rows} {instructions} {b} e l h s =
 
 pub marked-done : {bits : ℕ → ℕ} {m v rows instructions : ℕ} → v ≤ m → m ≤ v → Marked bits v rows instructions →
     Marked bits m rows instructions
-marked-done {bits} {m} {v} {rows} {instructions} a b s =
-    let e : v ≡ m = omega arith in
-    subst (λ (x : ℕ). Marked bits x rows instructions) e s
+marked-done {bits} {m} {v} {rows} {instructions} = reached (λ x. Marked bits x rows instructions) v m
 
 -- ---- a column
 pub live-first : (bit : ℕ → ℕ → ℕ) (m : ℕ) → 1 ≤ m → Live bit m 0 1
@@ -130,13 +126,13 @@ columns-none bit m n h = record { passed = omega arith; live = live-first bit m 
 pub columns-more : {bit : ℕ → ℕ → ℕ} {m n c h w instructions h′ count : ℕ} → m ≤ most-rows → ((v : ℕ) → v < m → bit v c ≤ 1) →
     c < n → Columns bit m n c h count → Passed bit m c h w instructions h′ →
     Columns bit m n (c + 1) h′ (count + (2 + 2 * h + instructions + h′))
-columns-more {bit} {m} {n} {c} {h} {w} {instructions} {h′} {count} few ok l s p =
+columns-more {bit} {m} {c = c} few ok l s p =
     let k : ℕ = rowBits m in
     record {
       passed = omega arith;
       live = p .after;
       is =
-          rw (blocks-more c (column k m bit))
+          simp (blocks-more c (column k m bit), length-append, column-length)
           (omega (
             arith,
             s .is,
@@ -145,17 +141,14 @@ columns-more {bit} {m} {n} {c} {h} {w} {instructions} {h′} {count} few ok l s 
             ap (liveBefore bit m) (add-one c),
             p .counted .marking,
             marks-count k m (λ v. bit v c) m ok (row-lt m),
-            length-append (blocks c (column k m bit)) (column k m bit c),
-            column-length k m bit c,
           ));
       few = omega (arith, s .few, s .live .few, p .counted .fewer, p .after .few);
     }
 
 pub columns-done : {bit : ℕ → ℕ → ℕ} {m n c h count : ℕ} → n ≤ c → Columns bit m n c h count →
     count ≡ length (blocks n (column (rowBits m) m bit))
-columns-done {bit} {m} {n} {c} {h} {count} l s =
-    let e : c ≡ n = omega (arith, s .passed) in
-    subst (λ (x : ℕ). count ≡ length (blocks x (column (rowBits m) m bit))) e (s .is)
+columns-done {bit} {m} {n} {c} {count = count} l s =
+    reached (λ x. count ≡ length (blocks x (column (rowBits m) m bit))) c n (s .passed) l (s .is)
 
 -- ---- a loop over the rows of a column, from m - 1 down: all have room, i of them are passed, j of them set
 pub record Rows (k m : ℕ) (bits : ℕ → ℕ) (at : ℕ) (buf : List ℕ) (i j : ℕ) (now : List ℕ) (to : ℕ) : Type 0 where

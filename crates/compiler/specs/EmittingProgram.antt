@@ -128,7 +128,7 @@ module _ {bytes : List ℕ} {m n k count : ℕ} (s : Counts bytes m n k count) w
       omega (arith, header-long (described k m n count), length-code code))
 
   code-bytes : (4 * n ≤ 10 * count) × (6 * (2 + k) + 10 * count - 4 * n + 8 * (1 + k) ≡ size code)
-  code-bytes = whole-bytes k m n (rowsOf bytes n) count (rw (s .bits) (s .columns))
+  code-bytes = whole-bytes k m (rowsOf bytes n) n count (rw (s .bits) (s .columns))
 
   -- ---- what the measures say
   limits : Packed bytes m n → within (described k m n count) ≡ true
@@ -149,32 +149,29 @@ planned {bytes} {m} {n} {k} {count} p s h =
       limits = w;
       header = l;
       fit = record { registers = l .few-registers; outputs = l .few-outputs };
-      parts = omega (arith, s .all, compiled-length (s .counts), whole-size k m n (rowsOf bytes n));
+      parts = omega (arith, s .all, compiled-length (s .counts), whole-size k m (rowsOf bytes n) n);
     }
 
--- ---- the program is written: its header, then its instructions
-file-written : (p : Program) (is : List Instruction) (buf head now : List ℕ) (next : ℕ) → within p ≡ true → header-length ≤ length buf →
-    head ≡ lay (laid (λ bytes. bytes) (writeHeaderOf p (length buf))) buf → Emitted header-length is head now next →
-    now ≡ lay (programFile p is) buf
-unfolding programFile
-file-written p is buf head now next w h e a =
-    let q : head ≡ lay (headerBytes p) buf = rw (write-header-gives p (length buf) w h) at e in
-    let long : length head ≡ length buf = ap length q ∙ length-lay (headerBytes p) buf (omega (arith, header-long p)) in
-    let fits : header-length + length (codeBytes is) ≤ length buf = omega (arith, length-code is, a .behind, a .room) in
-    laid-after 0 header-length (headerBytes p) (codeBytes is) buf head now (omega (arith, header-long p)) fits (a .laid .is)
-    (record { long = long; is = q ∙ sym (lay-is (headerBytes p) buf) }) .is ∙
-    lay-is (headerBytes p ++ codeBytes is) buf
-
--- all of it, as measured
+-- ---- the program is written as measured: its header, then its instructions
 pub program-written : {bytes : List ℕ} {m n k count long : ℕ} {p : Program} (buf : List ℕ) {head b1 b2 now : List ℕ} {at at′ next : ℕ} →
     Measured bytes m n k count long → Planned bytes m n k count (length buf) → p ≡ described k m n count →
     head ≡ lay (laid (λ bytes. bytes) (writeHeaderOf p (length buf))) buf →
     Emitted header-length (begin k) head b1 at → Emitted at (blocks n (column k m (rowsOf bytes n))) b1 b2 at′ →
     Emitted at′ (end k) b2 now next → now ≡ lay (compiled (packedMatrix bytes m n)) buf
-program-written {bytes} {m} {n} {k} {count} {long} buf {head = head} {now = now} {next = next} s l q e a b c =
+unfolding programFile
+program-written {bytes} {m} {n} {k} {count} buf {head = head} {now = now} s l q e a b c =
+    let first : List ℕ = headerBytes (described k m n count) in
+    let code : List ℕ = codeBytes (translationOf k m n (rowsOf bytes n)) in
+    let bytes-first = header-long (described k m n count) in
+    let written = emitted-after (emitted-after a b) c in
+    let is : head ≡ lay first buf =
+    rw (q, write-header-gives (described k m n count) (length buf) (l .limits) (omega (arith, l .parts))) at e in
+    let long : length head ≡ length buf = ap length is ∙ length-lay first buf (omega (arith, l .parts)) in
     rw (compiled-packed (s .counts))
-    (file-written (described k m n count) (translationOf k m n (rowsOf bytes n)) buf head now next (l .limits) (omega (arith, l .parts))
-    (rw q at e) (emitted-after (emitted-after a b) c))
+    (laid-after 0 header-length first code buf head now (omega arith)
+    (omega (arith, length-code (translationOf k m n (rowsOf bytes n)), written .behind, written .room)) (written .laid .is)
+    (record { long = long; is = is ∙ sym (lay-is first buf) }) .is ∙
+    lay-is (first ++ code) buf)
 
 -- ---- the ways through the checks
 pub compile-refused : (file : List ℕ) (room n : ℕ) → refused n ≡ mapped sizes (matrixOf file) → compileOf file room ≡ refused n

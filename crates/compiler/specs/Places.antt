@@ -1,9 +1,8 @@
 -- A place of the walk, a row that is hit or a distance, as the bits that one lane holds of it; and the walk as the places that it comes
 -- to, column after column. Assumes nothing.
 use Prim.Native.Nat.{ℕ, zero, suc, _+_, _*_, _-_, _/_, _%_, _^_, _≤_, _<_, min, max}
-use mathlib.Core.Path.{_≡_, refl, ap, _∙_}
-use mathlib.Core.Logic.{_≢_}
-use native.Mathlib.Nat.{add-zero}
+use mathlib.Core.Path.{_≡_, refl, _∙_}
+use native.Mathlib.Nat.{min-zero}
 use native.Mathlib.Omega.{arith}
 use Rattle.laws.specs.Lists.{upto, from, upto-from}
 use Rattle.walk.specs.Walk.{Place, found, left, Answer, sample, missed, answerOf, at, scan, then, walk}
@@ -59,42 +58,22 @@ placeAfter bit m b zero = left 0
 placeAfter bit m b (suc c) = onto (doubled (b c) (placeAfter bit m b c)) (λ d. scan (λ v. bit v c) m d)
 
 -- ---- the bits of what it does
-same-le : (i d : ℕ) → same i d ≤ 1
+same-one : (i d : ℕ) → min (same i d) 1 ≡ same i d
 unfolding same
-same-le i d = omega arith
-
-same-not : (i d : ℕ) → i ≢ d → same i d ≡ 0
-unfolding same
-same-not i d n = omega arith
-
-same-one : same 0 0 ≡ 1
-unfolding same
-same-one = refl
-
-same-step : (i d : ℕ) → same (suc i) (suc d) ≡ same i d
-unfolding same
-same-step i d = omega arith
-
-same-even : (i d : ℕ) → same (2 * i) (2 * d) ≡ same i d
-unfolding same
-same-even i d = omega arith
-
-same-odd : (i d : ℕ) → same (2 * i + 1) (2 * d + 1) ≡ same i d
-unfolding same
-same-odd i d = omega arith
+same-one i d = omega arith
 
 pub doubled-even : (b i : ℕ) (o : Place) → b ≤ 1 → min (isAt i o) (1 - b) ≡ isAt (2 * i) (doubled b o)
-unfolding isAt doubled
+unfolding isAt doubled same
 doubled-even b i (found v) h = omega arith
-doubled-even zero i (left d) h = omega (arith, same-le i d, same-even i d, ap (same (2 * i)) (add-zero (2 * d)))
-doubled-even (suc zero) i (left d) h = omega (arith, same-not (2 * i) (2 * d + 1) (omega arith))
+doubled-even zero i (left d) h = same-one i d ∙ omega arith
+doubled-even (suc zero) i (left d) h = min-zero (same i d) ∙ omega arith
 doubled-even (suc (suc b)) i (left d) h = absurd (omega arith)
 
 pub doubled-odd : (b i : ℕ) (o : Place) → b ≤ 1 → min (isAt i o) b ≡ isAt (2 * i + 1) (doubled b o)
-unfolding isAt doubled
+unfolding isAt doubled same
 doubled-odd b i (found v) h = omega arith
-doubled-odd zero i (left d) h = omega (arith, same-not (2 * i + 1) (2 * d + 0) (omega arith))
-doubled-odd (suc zero) i (left d) h = omega (arith, same-le i d, same-odd i d)
+doubled-odd zero i (left d) h = min-zero (same i d) ∙ omega arith
+doubled-odd (suc zero) i (left d) h = same-one i d ∙ omega arith
 doubled-odd (suc (suc b)) i (left d) h = absurd (omega arith)
 
 pub doubled-answer : (b : ℕ) (o : Place) → answerAt o ≡ answerAt (doubled b o)
@@ -103,22 +82,24 @@ doubled-answer b (found v) = refl
 doubled-answer b (left d) = refl
 
 pub meeting-hit : (v : ℕ) (o : Place) → max (hitBit (answerAt o)) (isAt 0 o) ≡ hitBit (answerAt (meeting v o))
-unfolding answerAt isAt meeting
+unfolding answerAt isAt meeting same
 meeting-hit v (found u) = refl
-meeting-hit v (left zero) = rw same-one
-meeting-hit v (left (suc d)) = rw (same-not 0 (suc d) (omega arith))
+meeting-hit v (left zero) = refl
+meeting-hit v (left (suc d)) = omega arith
 
 pub meeting-row : (v t : ℕ) (o : Place) → max (sampleBit t (answerAt o)) (v / 2 ^ t % 2 * isAt 0 o) ≡ sampleBit t (answerAt (meeting v o))
-unfolding answerAt isAt meeting
+unfolding answerAt isAt meeting same
 meeting-row v t (found u) = omega arith
-meeting-row v t (left zero) = rw same-one (omega arith)
-meeting-row v t (left (suc d)) = rw (same-not 0 (suc d) (omega arith)) (omega arith)
+meeting-row v t (left zero) = omega arith
+meeting-row v t (left (suc d)) =
+    let e : isAt 0 (left (suc d)) ≡ 0 = omega arith in
+    rw e (omega arith)
 
 pub meeting-at : (v i : ℕ) (o : Place) → isAt (suc i) o ≡ isAt i (meeting v o)
-unfolding isAt meeting
+unfolding isAt meeting same
 meeting-at v i (found u) = refl
-meeting-at v i (left zero) = same-not (suc i) 0 (omega arith)
-meeting-at v i (left (suc d)) = same-step i d
+meeting-at v i (left zero) = omega arith
+meeting-at v i (left (suc d)) = omega arith
 
 -- ---- the rows of a column, from a place on
 pub onto-none : (o : Place) → o ≡ onto o left

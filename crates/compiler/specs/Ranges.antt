@@ -9,9 +9,9 @@ use Rattle.laws.specs.Sums.{sumTo}
 use Rattle.laws.specs.Lists.{blocks, Each, each-append, each-blocks}
 use Rattle.files.specs.Matrix.{ones-in}
 use Rattle.programs.specs.declared.description.Instruction.{Instruction}
-use Rattle.programs.specs.declared.description.Instruction.the-variants.{Output}
+use Rattle.programs.specs.declared.description.Instruction.the-variants.{Or, Output}
 use Rattle.checker.specs.Accepting.{Fits, Sets, sets-left, sets-right}
-use Rattle.compiler.specs.Translation.{regV, clear, begin, apart, split, ifSet, spell, mark, marks}
+use Rattle.compiler.specs.Translation.{regH, regV, regY, clear, begin, apart, split, ifSet, spell, mark, marks}
 use Rattle.compiler.specs.Translation.{carry, keep, tell, end, liveBefore, column, translationOf}
 use Rattle.compiler.specs.Room.{Roomy, live-le, live-next}
 
@@ -23,14 +23,17 @@ module _ (P : Instruction → Type 0) where
   each-if zero is e = tt
   each-if (suc b) is e = e (omega arith)
 
-  -- of the rows' marks, if it holds of the mark of each set row
-  pub each-marks : (k m n : ℕ) → ((v j : ℕ) → j < n → Each P (mark k m v j)) → (bits : ℕ → ℕ) (r j : ℕ) → sumTo r bits + j ≤ n →
-      Each P (marks k m bits r j)
+  -- of the rows' marks, if it holds of the instructions of each set row
+  pub each-marks : (k m n : ℕ) →
+      ((j : ℕ) → j < n → P (Or regH regH (regY k m j)) × ((t : ℕ) → t < k → P (Or (regV t) (regV t) (regY k m j)))) →
+      (bits : ℕ → ℕ) (r j : ℕ) → sumTo r bits + j ≤ n → Each P (marks k m bits r j)
   unfolding marks sumTo
   each-marks k m n f bits zero j h = tt
   each-marks k m n f bits (suc r) j h =
       each-append P (ifSet (bits r) (mark k m r j)) (marks k m bits r (j + bits r))
-      (each-if (bits r) (mark k m r j) (λ l. f r j (omega arith)))
+      (each-if (bits r) (mark k m r j)
+      (λ l. let p = f j (omega arith) in
+      (p .0, each-blocks P (spell k m r j) k (λ t u. each-if (r / 2 ^ t % 2) _ (λ b. (p .1 t u, tt))))))
       (each-marks k m n f bits r (j + bits r) (omega arith))
 
 -- ---- operands
@@ -38,21 +41,6 @@ module _ (k m n : ℕ) where
   -- a header with any count
   abbrev In : Instruction → Type 0
   In i = Fits (record { registers = 3 + k + 3 * m; inputs = n; outputs = 1 + k; count = 0 }) i
-
-  begin-in : 1 ≤ m → Each In (begin k)
-  begin-in h = (omega arith, (omega arith, each-blocks In clear k (λ t l. omega arith)))
-
-  split-in : (c h : ℕ) → c < n → h ≤ m → Each In (split k m c h)
-  split-in c h l a = (omega arith, (omega arith, each-blocks In (apart k m) h (λ i b. omega arith)))
-
-  mark-in : (v j : ℕ) → j < 2 * m → Each In (mark k m v j)
-  mark-in v j l = (omega arith, each-blocks In (spell k m v j) k (λ t h. each-if In (v / 2 ^ t % 2) _ (λ b. omega arith)))
-
-  keep-in : (w h : ℕ) → h ≤ m → w + h ≤ 2 * m → Each In (keep k m w h)
-  keep-in w h a b = each-blocks In (carry k m w) h (λ i l. omega arith)
-
-  end-in : Each In (end k)
-  end-in = (omega arith, each-blocks In tell k (λ t l. omega arith))
 
   module _ (bit : ℕ → ℕ → ℕ) (r : Roomy m n bit) where
     column-in : (c : ℕ) → c < n → Each In (column k m bit c)
@@ -62,17 +50,24 @@ module _ (k m n : ℕ) where
         let b = live-next m n bit r c h in
         let before = split k m c (liveBefore bit m c) in
         let rows = marks k m (λ v. bit v c) m 0 in
-        each-append In (before ++ rows) (keep k m (ones-in bit m c) (liveBefore bit m (suc c)))
-        (each-append In before rows (split-in c (liveBefore bit m c) h a)
-        (each-marks In k m (2 * m) mark-in (λ v. bit v c) m 0 (omega arith)))
-        (keep-in (ones-in bit m c) (liveBefore bit m (suc c)) (live-le bit m (suc c) (r .some-rows)) (omega arith))
+        let w = ones-in bit m c in
+        let d = live-le bit m (suc c) (r .some-rows) in
+        each-append In (before ++ rows) (keep k m w (liveBefore bit m (suc c)))
+        (each-append In before rows
+        (omega arith, (omega arith, each-blocks In (apart k m) (liveBefore bit m c) (λ i l. omega arith)))
+        (each-marks In k m (2 * m)
+        (λ j l. (omega arith, (λ t u. omega arith)))
+        (λ v. bit v c) m 0 (omega arith)))
+        (each-blocks In (carry k m w) (liveBefore bit m (suc c)) (λ i l. omega arith))
 
     -- 3 + k + 3m registers, n inputs and 1 + k outputs
     pub in-range : Each In (translationOf k m n bit)
     in-range =
+        let some = r .some-rows in
         each-append In (begin k ++ blocks n (column k m bit)) (end k)
-        (each-append In (begin k) (blocks n (column k m bit)) (begin-in (r .some-rows)) (each-blocks In (column k m bit) n column-in))
-        end-in
+        (each-append In (begin k) (blocks n (column k m bit))
+        (omega arith, (omega arith, each-blocks In clear k (λ t l. omega arith))) (each-blocks In (column k m bit) n column-in))
+        (omega arith, each-blocks In tell k (λ t l. omega arith))
 
 -- ---- outputs
 outputs-set : (n t : ℕ) → t < n → Sets (1 + t) (blocks n tell)

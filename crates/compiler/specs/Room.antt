@@ -44,17 +44,15 @@ live-room bit m (suc k) c e i a b =
     (eq-or-lt-of-le a)
 
 module _ (M : Matrix) (a : Accepted M) where
-  accepted-live : live (bit M) (M .rows) 0 1 (M .columns) ≡ true
-  accepted-live =
-      live-is (bit M) (M .rows) (M .columns) (accepted-bits M a) ∙
-      le-leb (total-from (bit M) (M .rows) 0 (M .columns)) (2 ^ M .columns)
-      (omega (arith, a .sum, total-is M (bit M) (λ v c h l. refl)))
-
   pub accepted-roomy : Roomy (M .rows) (M .columns) (bit M)
   unfolding liveBefore
   accepted-roomy =
+      let open-places : live (bit M) (M .rows) 0 1 (M .columns) ≡ true =
+      live-is (bit M) (M .rows) (M .columns) (accepted-bits M a) ∙
+      le-leb (total-from (bit M) (M .rows) 0 (M .columns)) (2 ^ M .columns)
+      (omega (arith, a .sum, total-is M (bit M) (λ v c h l. refl))) in
       record {
         some-rows = a .some-rows;
         bits = accepted-bits M a;
-        room = λ c h. live-room (bit M) (M .rows) (M .columns) 0 accepted-live c (omega arith) (omega arith);
+        room = λ c h. live-room (bit M) (M .rows) (M .columns) 0 open-places c (omega arith) (omega arith);
       }

@@ -13,10 +13,10 @@ use Rattle.laws.specs.Lists.{blocks, length-blocks, Each, each-blocks}
 use Rattle.files.specs.Matrix.{ones-in}
 use Rattle.programs.specs.Instructions.{lengthOf}
 use Rattle.programs.specs.declared.description.Instruction.{Instruction}
-use Rattle.compiler.specs.Translation.{clear, begin, apart, split, ifSet, spell, mark, marks, carry, keep, tell, end}
+use Rattle.compiler.specs.Translation.{clear, begin, apart, ifSet, spell, mark, marks, carry, keep, tell, end}
 use Rattle.compiler.specs.Translation.{liveBefore, column, translationOf}
 use Rattle.compiler.specs.Room.{live-le}
-use Rattle.compiler.specs.Ranges.{each-if, each-marks}
+use Rattle.compiler.specs.Ranges.{each-marks}
 
 -- the set bits among the k low bits of v
 unfoldable pub ones : ℕ → ℕ → ℕ
@@ -73,29 +73,16 @@ module _ (k m : ℕ) where
   unfolding marks sumTo
   marks-length bits zero j = refl
   marks-length bits (suc r) j =
-      omega (
-        arith,
-        length-append (ifSet (bits r) (mark k m r j)) (marks k m bits r (j + bits r)),
-        if-length (bits r) (mark k m r j),
-        ap (λ (x : ℕ). min (bits r) 1 * x) (mark-length r j),
-        marks-length bits r (j + bits r),
-      )
+      simp (length-append, if-length)
+      (omega (arith, ap (λ (x : ℕ). min (bits r) 1 * x) (mark-length r j), marks-length bits r (j + bits r)))
 
   pub column-length : (bit : ℕ → ℕ → ℕ) (c : ℕ) →
       length (column k m bit c) ≡
       2 + 2 * liveBefore bit m c + length (marks k m (λ v. bit v c) m 0) + liveBefore bit m (suc c)
   unfolding column
   column-length bit c =
-      let before = split k m c (liveBefore bit m c) in
-      let rows = marks k m (λ v. bit v c) m 0 in
-      let after = keep k m (ones-in bit m c) (liveBefore bit m (suc c)) in
-      omega (
-        arith,
-        length-append (before ++ rows) after,
-        length-append before rows,
-        length-blocks 2 (apart k m) (λ i. refl) (liveBefore bit m c),
-        length-blocks 1 (carry k m (ones-in bit m c)) (λ i. refl) (liveBefore bit m (suc c)),
-      )
+      simp (length-append, length-blocks 2 (apart k m) (λ i. refl), length-blocks 1 (carry k m (ones-in bit m c)) (λ i. refl))
+      (omega arith)
 
   column-short : (bit : ℕ → ℕ → ℕ) (c : ℕ) → 1 ≤ m → length (column k m bit c) ≤ 2 + 3 * m + sumTo m (λ v. 1 + ones k v)
   column-short bit c h =
@@ -108,18 +95,9 @@ module _ (k m : ℕ) where
         live-le bit m (suc c) h,
       )
 
-  ends-length : length (begin k) + length (end k) ≡ 3 + 2 * k
-  ends-length = omega (arith, length-blocks 1 clear (λ t. refl) k, length-blocks 1 tell (λ t. refl) k)
-
   pub whole-length : (n : ℕ) (bit : ℕ → ℕ → ℕ) →
       length (translationOf k m n bit) ≡ 3 + 2 * k + length (blocks n (column k m bit))
-  whole-length n bit =
-      omega (
-        arith,
-        length-append (begin k ++ blocks n (column k m bit)) (end k),
-        length-append (begin k) (blocks n (column k m bit)),
-        ends-length,
-      )
+  whole-length n bit = simp (length-append, length-blocks 1 clear (λ t. refl), length-blocks 1 tell (λ t. refl)) (omega arith)
 
 -- ---- the set bits of all numbers of k bits
 -- one more bit, from the low end
@@ -217,12 +195,6 @@ unfolding blocks
 size-blocks w f e zero = omega arith
 size-blocks w f e (suc n) = omega (arith, size-append (blocks n f) (f n), size-blocks w f e n, e n)
 
-begin-size : (k : ℕ) → size (begin k) ≡ 6 * (2 + k)
-begin-size k = omega (arith, size-blocks 6 clear (λ t. refl) k)
-
-end-size : (k : ℕ) → size (end k) ≡ 8 * (1 + k)
-end-size k = omega (arith, size-blocks 8 tell (λ t. refl) k)
-
 -- each instruction of a column takes ten, but for its first two, INPUT and NOT, which take eight
 abbrev Ten : Instruction → Type 0
 Ten i = lengthOf i ≡ 10
@@ -231,54 +203,34 @@ tens : (is : List Instruction) → Each Ten is → size is ≡ 10 * length is
 tens [] e = refl
 tens (i ∷ is) e = omega (arith, e .0, tens is (e .1))
 
-module _ (k m : ℕ) where
-  split-size : (c h : ℕ) → size (split k m c h) + 4 ≡ 10 * length (split k m c h)
-  split-size c h = omega (arith, tens (blocks h (apart k m)) (each-blocks Ten (apart k m) h (λ i l. (refl, (refl, tt)))))
-
-  mark-tens : (v j : ℕ) → Each Ten (mark k m v j)
-  mark-tens v j = (refl, each-blocks Ten (spell k m v j) k (λ t l. each-if Ten (v / 2 ^ t % 2) _ (λ b. (refl, tt))))
-
-  keep-tens : (w h : ℕ) → Each Ten (keep k m w h)
-  keep-tens w h = each-blocks Ten (carry k m w) h (λ i l. (refl, tt))
-
-  column-size : (bit : ℕ → ℕ → ℕ) (c : ℕ) → size (column k m bit c) + 4 ≡ 10 * length (column k m bit c)
+module _ (k m : ℕ) (bit : ℕ → ℕ → ℕ) where
+  column-size : (c : ℕ) → size (column k m bit c) + 4 ≡ 10 * length (column k m bit c)
   unfolding column
-  column-size bit c =
-      let before = split k m c (liveBefore bit m c) in
-      let rows = marks k m (λ v. bit v c) m 0 in
-      let after = keep k m (ones-in bit m c) (liveBefore bit m (suc c)) in
-      let all-rows : sumTo m (λ v. bit v c) + 0 ≤ sumTo m (λ v. bit v c) = omega arith in
-      omega (
+  column-size c =
+      let h : ℕ = liveBefore bit m c in
+      let w : ℕ = ones-in bit m c in
+      let g : ℕ = liveBefore bit m (suc c) in
+      simp (size-append, length-append)
+      (omega (
         arith,
-        size-append (before ++ rows) after,
-        size-append before rows,
-        length-append (before ++ rows) after,
-        length-append before rows,
-        split-size c (liveBefore bit m c),
-        tens rows (each-marks Ten k m (sumTo m (λ v. bit v c)) (λ v j l. mark-tens v j) (λ v. bit v c) m 0 all-rows),
-        tens after (keep-tens (ones-in bit m c) (liveBefore bit m (suc c))),
-      )
+        tens (blocks h (apart k m)) (each-blocks Ten (apart k m) h (λ i l. (refl, (refl, tt)))),
+        tens (marks k m (λ v. bit v c) m 0)
+            (each-marks Ten k m (sumTo m (λ v. bit v c) + 0) (λ j l. (refl, (λ t u. refl))) (λ v. bit v c) m 0 (omega arith)),
+        tens (keep k m w g) (each-blocks Ten (carry k m w) g (λ i l. (refl, tt))),
+      ))
 
-  columns-size : (bit : ℕ → ℕ → ℕ) (n : ℕ) → size (blocks n (column k m bit)) + 4 * n ≡ 10 * length (blocks n (column k m bit))
+  columns-size : (n : ℕ) → size (blocks n (column k m bit)) + 4 * n ≡ 10 * length (blocks n (column k m bit))
   unfolding blocks
-  columns-size bit zero = omega arith
-  columns-size bit (suc n) =
-      omega (
-        arith,
-        size-append (blocks n (column k m bit)) (column k m bit n),
-        length-append (blocks n (column k m bit)) (column k m bit n),
-        columns-size bit n,
-        column-size bit n,
-      )
+  columns-size zero = omega arith
+  columns-size (suc n) = simp (size-append, length-append) (omega (arith, columns-size n, column-size n))
 
-  pub whole-size : (n : ℕ) (bit : ℕ → ℕ → ℕ) →
+  pub whole-size : (n : ℕ) →
       size (translationOf k m n bit) ≡ size (begin k) + size (blocks n (column k m bit)) + size (end k)
-  whole-size n bit =
-      omega (arith, size-append (begin k ++ blocks n (column k m bit)) (end k), size-append (begin k) (blocks n (column k m bit)))
+  whole-size n = simp size-append (omega arith)
 
   -- all of it, where the columns are `count` instructions
-  pub whole-bytes : (n : ℕ) (bit : ℕ → ℕ → ℕ) (count : ℕ) → count ≡ length (blocks n (column k m bit)) →
+  pub whole-bytes : (n count : ℕ) → count ≡ length (blocks n (column k m bit)) →
       (4 * n ≤ 10 * count) × (6 * (2 + k) + 10 * count - 4 * n + 8 * (1 + k) ≡ size (translationOf k m n bit))
-  whole-bytes n bit count e =
-      let c : 10 * count ≡ size (blocks n (column k m bit)) + 4 * n = omega (arith, columns-size bit n) in
-      (omega arith, omega (arith, whole-size n bit, begin-size k, end-size k))
+  whole-bytes n count e =
+      let c : 10 * count ≡ size (blocks n (column k m bit)) + 4 * n = omega (arith, columns-size n) in
+      (omega arith, omega (arith, whole-size n, size-blocks 6 clear (λ t. refl) k, size-blocks 8 tell (λ t. refl) k))

@@ -1,38 +1,36 @@
 -- No register of the translation is read before an instruction has written it. The registers that are written are followed as two spans of
 -- numbers: from B, N or H up into the X, and the first of the Y. Assumes nothing.
-use Prim.Native.Nat.{ℕ, zero, suc, _+_, _*_, _/_, _%_, _^_, _≤_, _<_}
-use mathlib.Core.Path.{_≡_, refl}
+use Prim.Native.Nat.{ℕ, zero, suc, _+_, _*_, _≤_, _<_}
+use mathlib.Core.Path.{refl}
 use mathlib.Core.List.{List, [], _∷_, _++_}
-use mathlib.Core.Logic.{_⊎_, inl, inr, ⊎-elim}
-use native.Mathlib.Nat.{eq-or-lt-of-le}
+use mathlib.Core.Logic.{_⊎_, inl, inr, ⊎-elim, ⊎-map}
 use native.Mathlib.Omega.{arith}
+use Rattle.laws.specs.Tests.{lt-or-ge}
 use Rattle.laws.specs.Lists.{blocks, Each, each-blocks}
 use Rattle.files.specs.Matrix.{ones-in}
 use Rattle.programs.specs.Instructions.{uses}
 use Rattle.programs.specs.declared.description.Instruction.{Instruction}
 use Rattle.laws.specs.Every.{OneOf}
 use Rattle.checker.specs.Accepting.{Ready, none, ready-more, ready-less, ready-append, ready-blocks, ready-stay}
-use Rattle.compiler.specs.Translation.{regB, regN, regH, regX, regY, clear, begin, apart, split, spell, mark, marks}
+use Rattle.compiler.specs.Translation.{regB, regN, regH, regX, regY, clear, begin, apart, split, marks}
 use Rattle.compiler.specs.Translation.{carry, keep, tell, end, liveBefore, column, translationOf}
 use Rattle.compiler.specs.Room.{Roomy, live-next}
-use Rattle.compiler.specs.Ranges.{each-if, each-marks}
+use Rattle.compiler.specs.Ranges.{each-marks}
 
 -- the numbers from a up to b, and from c up to d
 abbrev Spans : ℕ → ℕ → ℕ → ℕ → ℕ → Type 0
 Spans a b c d r = ((a ≤ r) × (r < b)) ⊎ ((c ≤ r) × (r < d))
 
 -- a span that grew by one at its end
-first-grown : (a b b′ c d r : ℕ) → b′ ≤ suc b → Spans a b′ c d r → OneOf (b ∷ []) r ⊎ Spans a b c d r
-first-grown a b b′ c d r h (inl x) =
-    let l : suc r ≤ suc b = omega arith in
-    ⊎-elim (λ (q : suc r ≡ suc b). inl (inl (omega arith))) (λ (q : suc r < suc b). inr (inl (omega arith))) (eq-or-lt-of-le l)
-first-grown a b b′ c d r h (inr x) = inr (inr x)
+first-grown : {a b b′ c d r : ℕ} → b′ ≤ suc b → Spans a b′ c d r → OneOf (b ∷ []) r ⊎ Spans a b c d r
+first-grown {b = b} {r = r} h (inl x) =
+    ⊎-elim (λ (q : r < b). inr (inl (omega arith))) (λ (q : b ≤ r). inl (inl (omega arith))) (lt-or-ge r b)
+first-grown h (inr x) = inr (inr x)
 
-second-grown : (a b c d d′ r : ℕ) → d′ ≤ suc d → Spans a b c d′ r → OneOf (d ∷ []) r ⊎ Spans a b c d r
-second-grown a b c d d′ r h (inl x) = inr (inl x)
-second-grown a b c d d′ r h (inr x) =
-    let l : suc r ≤ suc d = omega arith in
-    ⊎-elim (λ (q : suc r ≡ suc d). inl (inl (omega arith))) (λ (q : suc r < suc d). inr (inr (omega arith))) (eq-or-lt-of-le l)
+second-grown : {a b c d d′ r : ℕ} → d′ ≤ suc d → Spans a b c d′ r → OneOf (d ∷ []) r ⊎ Spans a b c d r
+second-grown h (inl x) = inr (inl x)
+second-grown {d = d} {r = r} h (inr x) =
+    ⊎-elim (λ (q : r < d). inr (inr (omega arith))) (λ (q : d ≤ r). inl (inl (omega arith))) (lt-or-ge r d)
 
 module _ (k m : ℕ) where
   -- between columns: H, each V, and h of the X
@@ -40,15 +38,6 @@ module _ (k m : ℕ) where
   Held h r = (2 ≤ r) × (r < regX k h)
 
   -- ---- the beginning
-  begin-held : (r : ℕ) → Held 1 r → Spans 2 (3 + k) (regX k 0) (regX k 1) r
-  begin-held r x =
-      ⊎-elim (λ (q : suc r ≡ regX k 1). inr (omega arith)) (λ (q : suc r < regX k 1). inl (omega arith)) (eq-or-lt-of-le (x .1))
-
-  zeros-ready : Ready (Spans 2 3 (regX k 0) (regX k 1)) (blocks k clear) (Spans 2 (3 + k) (regX k 0) (regX k 1))
-  zeros-ready =
-      ready-blocks (λ t. Spans 2 (3 + t) (regX k 0) (regX k 1)) clear k
-      (λ t l. (tt, (λ r x. first-grown 2 (3 + t) (3 + suc t) (regX k 0) (regX k 1) r (omega arith) x)))
-
   begun : (r : ℕ) → Spans 2 3 (regX k 0) (regX k 1) r → OneOf (regH ∷ []) r ⊎ (OneOf (regX k 0 ∷ []) r ⊎ ⊥)
   begun r (inl x) = inl (inl (omega arith))
   begun r (inr x) = inr (inl (inl (omega arith)))
@@ -56,9 +45,17 @@ module _ (k m : ℕ) where
   begin-ready : Ready none (begin k) (Held 1)
   begin-ready =
       let zeros : List Instruction = blocks k clear in
-      let first : ℕ → Type 0 = Spans 2 3 (regX k 0) (regX k 1) in
-      let after : ℕ → Type 0 = Spans 2 (3 + k) (regX k 0) (regX k 1) in
-      (tt, (tt, ready-less zeros _ after (Held 1) begin-held (ready-more zeros first _ after begun zeros-ready)))
+      let upTo : ℕ → ℕ → Type 0 = λ t. Spans 2 (3 + t) (regX k 0) (regX k 1) in (
+        tt,
+        (
+          tt,
+          ready-less zeros _ (upTo k) (Held 1)
+              (λ r x. ⊎-elim (λ (q : r < 3 + k). inl (omega arith)) (λ (q : 3 + k ≤ r). inr (omega arith)) (lt-or-ge r (3 + k)))
+              (ready-more zeros (upTo 0) _ (upTo k) begun
+              (ready-blocks upTo clear k
+              (λ t l. (tt, (λ r x. first-grown (omega arith) x))))),
+        ),
+      )
 
   -- ---- a column with h distances live before it
   module _ (h : ℕ) where
@@ -77,11 +74,9 @@ module _ (k m : ℕ) where
       (inl (omega arith), (inl (omega arith), tt)),
       (
         (inr (inl (omega arith)), (inr (inl (omega arith)), tt)),
-        (λ r x. ⊎-elim
-            (λ (q : OneOf (regY k m (2 * i + 1) ∷ []) r). inl q)
-            (λ (y : Open (2 * i + 1) r).
-            inr (second-grown 0 (regX k h) (regY k m 0) (regY k m (2 * i)) (regY k m (2 * i + 1)) r (omega arith) y))
-            (second-grown 0 (regX k h) (regY k m 0) (regY k m (2 * i + 1)) (regY k m (2 * suc i)) r (omega arith) x)),
+        (λ r x. ⊎-map (λ y. y)
+            (second-grown (omega arith))
+            (second-grown (omega arith) x)),
       ),
     )
 
@@ -89,17 +84,6 @@ module _ (k m : ℕ) where
     split-ready c =
         let pairs = ready-blocks (λ i. Open (2 * i)) (apart k m) h apart-ready in
         (tt, ((inl (inl refl), tt), ready-more (blocks h (apart k m)) (Open 0) _ (Open (2 * h)) opened pairs))
-
-    -- the marks write only what is written already
-    abbrev Reading : Instruction → Type 0
-    Reading i = Each (Open (2 * h)) (uses i .reads)
-
-    mark-reads : (v j : ℕ) → j < 2 * h → Each Reading (mark k m v j)
-    mark-reads v j l = (
-      (inl (omega arith), (inr (omega arith), tt)),
-      each-blocks Reading (spell k m v j) k
-          (λ t u. each-if Reading (v / 2 ^ t % 2) _ (λ b. ((inl (omega arith), (inr (omega arith), tt)), tt))),
-    )
 
     -- the first i of the X, and the Y
     abbrev Kept : ℕ → ℕ → Type 0
@@ -117,7 +101,7 @@ module _ (k m : ℕ) where
         (ready-blocks Kept (carry k m w) g
         (λ i u. (
           (inr (omega arith), (inr (omega arith), tt)),
-          (λ r x. first-grown 0 (regX k i) (regX k (suc i)) (regY k m 0) (regY k m (2 * h)) r (omega arith) x),
+          (λ r x. first-grown (omega arith) x),
         ))))
 
   module _ (n : ℕ) (bit : ℕ → ℕ → ℕ) (roomy : Roomy m n bit) where
@@ -131,11 +115,10 @@ module _ (k m : ℕ) where
         ready-append (split k m c h ++ met) (keep k m (ones-in bit m c) g) (Held h) (Open h (2 * h)) (Held g)
         (ready-append (split k m c h) met (Held h) (Open h (2 * h)) (Open h (2 * h)) (split-ready h c)
         (ready-stay (Open h (2 * h)) met
-        (each-marks (Reading h) k m (2 * h) (mark-reads h) (λ v. bit v c) m 0 (omega arith))))
+        (each-marks (λ i. Each (Open h (2 * h)) (uses i .reads)) k m (2 * h)
+        (λ j u. ((inl (omega arith), (inr (omega arith), tt)), (λ t w. (inl (omega arith), (inr (omega arith), tt)))))
+        (λ v. bit v c) m 0 (omega arith))))
         (keep-ready h (ones-in bit m c) g next)
-
-    end-reads : Each (λ i. Each (Held 0) (uses i .reads)) (end k)
-    end-reads = ((omega arith, tt), each-blocks (λ i. Each (Held 0) (uses i .reads)) tell k (λ t l. ((omega arith, tt), tt)))
 
     -- whatever is live at the end, H and each V are written
     pub written-first : Ready none (translationOf k m n bit) none
@@ -146,4 +129,5 @@ module _ (k m : ℕ) where
         (ready-append (begin k ++ blocks n (column k m bit)) (end k) none (Held (live n)) (Held 0)
         (ready-append (begin k) (blocks n (column k m bit)) none (Held 1) (Held (live n)) begin-ready
         (ready-blocks (λ c. Held (live c)) (column k m bit) n column-ready))
-        (ready-more (end k) (Held 0) (Held (live n)) (Held 0) (λ r x. omega arith) (ready-stay (Held 0) (end k) end-reads)))
+        (ready-more (end k) (Held 0) (Held (live n)) (Held 0) (λ r x. omega arith) (ready-stay (Held 0) (end k)
+        ((omega arith, tt), each-blocks (λ i. Each (Held 0) (uses i .reads)) tell k (λ t l. ((omega arith, tt), tt))))))

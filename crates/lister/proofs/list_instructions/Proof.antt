@@ -21,6 +21,6 @@ loop-again c = omega (arith, length-few (c .before .before .before .i .given .0 
 pub list-instructions-spec : {M : Type 1} → statement M
 list-instructions-spec =
     tie.close
-    (tie.spec Inv-loop μ-loop (λ c. search needs) (λ c κs. search needs) (λ c. search needs) (λ c κs. search needs)
-    (λ c. search needs) (λ c. search needs) (λ c κs. search needs) (λ c κs. search needs) add-at (λ c. search needs)
-    (λ c. search needs) loop-again (λ c. search needs))
+    (tie.spec Inv-loop μ-loop (search needs) (search needs) (search needs) (search needs)
+    (search needs) (search needs) (search needs) (search needs) add-at (search needs)
+    (search needs) loop-again (search needs))

@@ -21,6 +21,6 @@ slice-aggregate-list c =
 pub main-spec : {M : Type 1} → statement M
 main-spec =
     tie.close
-    (tie.spec (λ c. search needs) (λ c κs. search needs) (λ c. search needs) (λ c. search needs) (λ c. search needs)
-    (λ c κs. search needs) (λ c. search needs) (λ c κs. search needs) (λ c. search needs) array-share-prefix-program
-    slice-aggregate-list (λ c κs. search needs) (λ c. search needs) (λ c. search needs))
+    (tie.spec (search needs) (search needs) (search needs) (search needs) (search needs)
+    (search needs) (search needs) (search needs) (search needs) array-share-prefix-program
+    slice-aggregate-list (search needs) (search needs) (search needs))

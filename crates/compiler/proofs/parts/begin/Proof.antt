@@ -37,6 +37,6 @@ returns c =
 pub begin-spec : {M : Type 1} → statement M
 begin-spec =
     tie.close
-    (tie.spec Inv-loop μ-loop (λ c κs. search needs) (λ c κs. search needs) (λ c κs. search needs) loop-holds
-    (λ c κs. search needs) put-requires-3 (λ c. search needs) (λ c. search needs) loop-again (λ c. search needs)
+    (tie.spec Inv-loop μ-loop (search needs) (search needs) (search needs) loop-holds
+    (search needs) put-requires-3 (search needs) (search needs) loop-again (search needs)
     returns)

@@ -42,5 +42,5 @@ returns c =
 pub mark-spec : {M : Type 1} → statement M
 mark-spec =
     tie.close
-    (tie.spec Inv-loop μ-loop (λ c κs. search needs) (λ c κs. search needs) loop-holds (λ c κs. search needs)
-    (λ c. search needs) put-if-requires (λ c. search needs) (λ c. search needs) loop-again (λ c. search needs) returns)
+    (tie.spec Inv-loop μ-loop (search needs) (search needs) loop-holds (search needs)
+    (search needs) put-if-requires (search needs) (search needs) loop-again (search needs) returns)

@@ -22,4 +22,4 @@ returns c =
 pub measure-spec : {M : Type 1} → statement M
 measure-spec =
     tie.close
-    (tie.spec (λ c κs. search needs) (λ c κs. search needs) count-columns-requires program-length-requires returns)
+    (tie.spec (search needs) (search needs) count-columns-requires program-length-requires returns)

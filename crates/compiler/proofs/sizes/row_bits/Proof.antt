@@ -13,4 +13,4 @@ returns : tie.Need-returns
 returns c = counted-width 64 (c .args .m) (c .pre) (omega (arith, c .fits .m))
 
 pub row-bits-spec : {M : Type 1} → statement M
-row-bits-spec = tie.close (tie.spec (λ c. search needs) sub-result-2 (λ c. search needs) returns)
+row-bits-spec = tie.close (tie.spec (search needs) sub-result-2 (search needs) returns)

@@ -60,5 +60,5 @@ returns-3 c =
 pub compile-spec : {M : Type 1} → statement M
 compile-spec =
     tie.close
-    (tie.spec (λ c κs. search needs) (λ c. search needs) (λ c. search needs) sub-bytes part-bytes-start
-    (λ c. search needs) measure-requires returns write-requires returns-2 (λ c. search needs) returns-3)
+    (tie.spec (search needs) (search needs) (search needs) sub-bytes part-bytes-start
+    (search needs) measure-requires returns write-requires returns-2 (search needs) returns-3)

@@ -54,5 +54,5 @@ returns c =
 pub write-spec : {M : Type 1} → statement M
 write-spec =
     tie.close
-    (tie.spec describe-requires (λ c κs. search needs) begin-requires (λ c κs. search needs) columns-requires
-    end-requires (λ c. search needs) returns)
+    (tie.spec describe-requires (search needs) begin-requires (search needs) columns-requires
+    end-requires (search needs) returns)
