@@ -171,13 +171,14 @@ matrix-read file M e =
     let b = bound (headerOf file) (bodyOf file) M e in
     let c5 = passed 5 _ _ M (b .2) in
     let c6 = passed 6 _ _ M (c5 .1) in
-    read (b .0) (b .1) (c5 .0) (ltb-false _ _ (c6 .0)) (gives-inj (c6 .1))
-  where
-    read : (s : Sizes) → headerOf file ≡ gives s → anySpare (s .rows) (s .columns) (drop 8 file) ≡ false →
-        total (unpacked (drop 8 file) s) ≤ 2 ^ s .columns → unpacked (drop 8 file) s ≡ M → Read file M
-    read s h a t q =
-        subst (Read file) q
-        (record { sized = header-says file s h .sized; header = h; no-spare = a; sum = t; is = refl })
+    subst (Read file) (gives-inj (c6 .1))
+    (record {
+      sized = header-says file (b .0) (b .1) .sized;
+      header = b .1;
+      no-spare = c5 .0;
+      sum = ltb-false _ _ (c6 .0);
+      is = refl;
+    })
 
 -- ---- reading
 module _ (file : List ℕ) (room : ℕ) where

@@ -96,14 +96,14 @@ no-entry-above k entries e i h = ltb-false 1 (getD entries i 0) (any-false k i (
 module _ (m n : ℕ) (entries : List ℕ) where
   pub taken-bit : (v c : ℕ) → v < m → c < n → bit (taken m n entries) v c ≡ getD entries (v * n + c) 0
   unfolding bit
-  taken-bit v c h l = getD-take (m * n) entries (v * n + c) 0 (cell v m n c h l)
+  taken-bit v c h l = getD-take (m * n) entries (v * n + c) 0 (cell h l)
 
   -- the live test of the entries is refusal 6's
   pub entries-sum : aboveOne (m * n) entries ≡ false → ltb (2 ^ n) (total (taken m n entries)) ≡ not (rowsFit entries 1 n m n)
   entries-sum none =
       let ok = no-entry-above (m * n) entries none in
       rw (total-is (taken m n entries) (λ v. packedBit 1 entries (v * n))
-      (λ v c h l. taken-bit v c h l ∙ sym (entry-bit entries (v * n) c (ok (v * n + c) (cell v m n c h l)))))
+      (λ v c h l. taken-bit v c h l ∙ sym (entry-bit entries (v * n) c (ok (v * n + c) (cell h l)))))
       (not-above (total-from (λ v. packedBit 1 entries (v * n)) m 0 n) (2 ^ n))
 
 -- ---- what is laid down
@@ -111,16 +111,15 @@ pub header-laid : (file x1 x2 x3 x4 : List ℕ) (len m n : ℕ) → x1 ≡ store
     x4 ≡ stored x3 6 n → len ≡ fileLength m n → 8 ≤ length file → x4 ≡ lay (headerBytes m n) file
 unfolding headerBytes
 header-laid file x1 x2 x3 x4 len m n e1 e2 e3 e4 e h =
-    let l1 = laid-field 0 file file x1 [] (fileLength m n) refl (omega arith) (rw e at e1) (laid-none 0 file) in
-    let l2 = laid-field 2 file x1 x2 (fieldBytes (fileLength m n)) 32 refl (omega arith) e2 l1 in
-    let l3 = laid-field 4 file x2 x3 (fieldBytes (fileLength m n) ++ fieldBytes 32) m refl (omega arith) e3 l2 in
-    let l4 = laid-field 6 file x3 x4 (fieldBytes (fileLength m n) ++ fieldBytes 32 ++ fieldBytes m) n refl (omega arith) e4 l3 in
-    l4 .is ∙ lay-is (fieldBytes (fileLength m n) ++ fieldBytes 32 ++ fieldBytes m ++ fieldBytes n) file
+    let l1 = laid-field 0 (fileLength m n) (rw e at e1) (laid-none 0 file) refl (omega arith) in
+    let l2 = laid-field 2 32 e2 l1 refl (omega arith) in
+    let l3 = laid-field 4 m e3 l2 refl (omega arith) in
+    laid-field 6 n e4 l3 refl (omega arith) .is ∙ lay-is (fieldBytes (fileLength m n) ++ fieldBytes 32 ++ fieldBytes m ++ fieldBytes n) file
   where
     -- a field behind those before it
-    laid-field : (at : ℕ) (file now now′ xs : List ℕ) (x : ℕ) → at ≡ 0 + length xs → at + 2 ≤ length file → now′ ≡ stored now at x →
-        Laid 0 xs file now → Laid 0 (xs ++ fieldBytes x) file now′
-    laid-field at file now now′ xs x e h q l =
+    laid-field : (at x : ℕ) {now now′ xs : List ℕ} → now′ ≡ stored now at x → Laid 0 xs file now → at ≡ 0 + length xs →
+        at + 2 ≤ length file → Laid 0 (xs ++ fieldBytes x) file now′
+    laid-field at x {now} {now′} {xs} q l e h =
         laid-after 0 at xs (fieldBytes x) file now now′ e h (q ∙ stored-at now at x (omega (arith, l .long))) l
 
 pub length-header : (m n : ℕ) → length (headerBytes m n) ≡ 8

@@ -31,13 +31,13 @@ mul-pack-row-2 : tie.Need-mul-pack-row-2 Inv-loop μ-loop
 mul-pack-row-2 c =
     let turn = c .before in
     let s = turn .before .before .before .before .before in
-    record { fits = omega (arith, row-place _ _ _ _ _ (turn .loop-test .taken) (turn .before .loop .inv .1) (s .pre .3)) }
+    record { fits = omega (arith, row-place _ (turn .loop-test .taken) (turn .before .loop .inv .1) (s .pre .3)) }
 
 add-pack-row : tie.Need-add-pack-row Inv-loop μ-loop
 add-pack-row c =
     let turn = c .before in
     let s = turn .before .before .before .before .before in
-    record { fits = omega (arith, row-place _ _ _ _ _ (turn .loop-test .taken) (turn .before .loop .inv .1) (s .pre .3)) }
+    record { fits = omega (arith, row-place _ (turn .loop-test .taken) (turn .before .loop .inv .1) (s .pre .3)) }
 
 pack-row-requires : tie.Need-pack-row-requires Inv-loop μ-loop
 pack-row-requires c κs =
@@ -46,8 +46,8 @@ pack-row-requires c κs =
     let s = turn .before .before .before .before .before in (
       omega (arith, row-end (s .args .n) (s .args .n) (turn .loop-test .taken) refl (s .pre .2)),
       search needs,
-      omega (arith, row-place _ _ _ _ _ (turn .loop-test .taken) (at .inv .1) (s .pre .3), at .inv .2 .long),
-      λ i h. no-entry-above _ (s .args .entries .now) (s .pre .4) _ (cell _ _ _ i (turn .loop-test .taken) h),
+      omega (arith, row-place _ (turn .loop-test .taken) (at .inv .1) (s .pre .3), at .inv .2 .long),
+      λ i h. no-entry-above _ (s .args .entries .now) (s .pre .4) _ (cell (turn .loop-test .taken) h),
     )
 
 loop-again : tie.Need-loop-again Inv-loop μ-loop
@@ -55,7 +55,7 @@ loop-again c =
     let turn = c .before .before .before .before in
     let at = turn .before .loop in
     let s = turn .before .before .before .before .before in
-    let room = row-place _ _ _ _ _ (turn .loop-test .taken) (at .inv .1) (s .pre .3) in (
+    let room = row-place _ (turn .loop-test .taken) (at .inv .1) (s .pre .3) in (
       search needs,
       search needs,
       laid-block _ _ _ _ _ _ _ _ (λ v. length-packed _ _) (ap (λ (w : ℕ). 8 + at .v * w) (at .inv .1)) room

@@ -38,7 +38,7 @@ fits-requires c κs =
       search needs,
       sized .some-rows,
       omega (arith, sized .few-rows),
-      λ v i h l. omega (arith, cell v (s .rows) (s .columns) i h l),
+      λ v i h l. omega (arith, cell h l),
     )
 
 returns-4 : tie.Need-returns-4

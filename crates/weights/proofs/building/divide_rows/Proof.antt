@@ -28,13 +28,13 @@ mul-divide-row : tie.Need-mul-divide-row Inv-loop μ-loop
 mul-divide-row c =
     let turn = c .before .before .before in
     let s = turn .before .before .before .before .before in
-    record { fits = omega (arith, row-place _ _ _ _ _ (turn .loop-test .taken) (turn .before .loop .inv .1) (s .pre .2)) }
+    record { fits = omega (arith, row-place _ (turn .loop-test .taken) (turn .before .loop .inv .1) (s .pre .2)) }
 
 add-divide-row : tie.Need-add-divide-row Inv-loop μ-loop
 add-divide-row c =
     let turn = c .before .before .before in
     let s = turn .before .before .before .before .before in
-    record { fits = omega (arith, row-place _ _ _ _ _ (turn .loop-test .taken) (turn .before .loop .inv .1) (s .pre .2)) }
+    record { fits = omega (arith, row-place _ (turn .loop-test .taken) (turn .before .loop .inv .1) (s .pre .2)) }
 
 divide-row-requires : tie.Need-divide-row-requires Inv-loop μ-loop
 divide-row-requires c κs =
@@ -43,7 +43,7 @@ divide-row-requires c κs =
     let s = turn .before .before .before .before .before in (
       rw (c .before .counted-weight .ensures, s .pre .0) (counted-le _ _ 0 _ (turn .loop-test .taken)),
       search needs,
-      omega (arith, row-place _ _ _ _ _ (turn .loop-test .taken) (at .inv .1) (s .pre .2), at .inv .2 .long),
+      omega (arith, row-place _ (turn .loop-test .taken) (at .inv .1) (s .pre .2), at .inv .2 .long),
     )
 
 loop-again : tie.Need-loop-again Inv-loop μ-loop
@@ -52,7 +52,7 @@ loop-again c =
     let turn = counted .before .before in
     let at = turn .before .loop in
     let s = turn .before .before .before .before .before in
-    let room = row-place _ _ _ _ _ (turn .loop-test .taken) (at .inv .1) (s .pre .2) in (
+    let room = row-place _ (turn .loop-test .taken) (at .inv .1) (s .pre .2) in (
       search needs,
       search needs,
       laid-block _ _ _ _ _ _ _ _ (λ v. length-packed _ _) (ap (λ (w : ℕ). 8 + at .v * w) (at .inv .1)) room
