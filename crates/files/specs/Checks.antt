@@ -36,29 +36,44 @@ module _ (file : List ℕ) where
       unfolding headerOf
       header-kind k = rw (le-ltb (length file) 8 a, le-ltb (length file) (fieldOf file 0) b, ne-eqb (fieldOf file 2) 32 k)
 
-      -- past shortness and kind
-      module _ (k : fieldOf file 2 ≡ 32) (m n : ℕ) (is-m : m ≡ fieldOf file 4) (is-n : n ≡ fieldOf file 6) where
-        past-kind : headerOf file ≡
-            (refuse 3 (sizesOutside m n) >> (refuse 4 (not (eqb (fieldOf file 0) (fileLength m n))) >>
-            (refuse 4 (not (eqb (length file) (fieldOf file 0))) >> gives (record { rows = m; columns = n }))))
-        unfolding headerOf
-        past-kind =
-            rw (is-m, is-n, le-ltb (length file) 8 a, le-ltb (length file) (fieldOf file 0) b, eq-eqb (fieldOf file 2) 32 k)
-            (sizes-refuse (fieldOf file 4) (fieldOf file 6) _)
+-- what has passed before the sizes are tried, with the fields as they were read
+pub record Kinded (file : List ℕ) (len m n : ℕ) : Type 0 where
+  pub long : 8 ≤ length file
+  pub length-is : len ≡ fieldOf file 0
+  pub there : len ≤ length file
+  pub kind-is : fieldOf file 2 ≡ 32
+  pub rows-is : m ≡ fieldOf file 4
+  pub columns-is : n ≡ fieldOf file 6
 
-        pub header-sizes : sizesOutside m n ≡ true → refused 3 ≡ headerOf file
-        header-sizes s = rw (past-kind, s)
+module _ {file : List ℕ} {len m n : ℕ} (k : Kinded file len m n) where
+  past-kind : headerOf file ≡
+      (refuse 3 (sizesOutside m n) >> (refuse 4 (not (eqb len (fileLength m n))) >>
+      (refuse 4 (not (eqb (length file) len)) >> gives (record { rows = m; columns = n }))))
+  unfolding headerOf
+  past-kind =
+      let there : fieldOf file 0 ≤ length file = rw (k .length-is) at (k .there) in
+      rw (
+        k .length-is,
+        k .rows-is,
+        k .columns-is,
+        le-ltb (length file) 8 (k .long),
+        le-ltb (length file) (fieldOf file 0) there,
+        eq-eqb (fieldOf file 2) 32 (k .kind-is),
+      ) (sizes-refuse (fieldOf file 4) (fieldOf file 6) _)
 
-        module _ (s : sizesOutside m n ≡ false) where
-          pub header-length : (fieldOf file 0 ≡ fileLength m n → ⊥) → refused 4 ≡ headerOf file
-          header-length l = rw (past-kind, s, ne-eqb (fieldOf file 0) (fileLength m n) l)
+  pub header-sizes : sizesOutside m n ≡ true → refused 3 ≡ headerOf file
+  header-sizes s = rw (past-kind, s)
 
-          module _ (l : fieldOf file 0 ≡ fileLength m n) where
-            pub header-left : (length file ≡ fieldOf file 0 → ⊥) → refused 4 ≡ headerOf file
-            header-left e = rw (past-kind, s, eq-eqb (fieldOf file 0) (fileLength m n) l, ne-eqb (length file) (fieldOf file 0) e)
+  module _ (s : sizesOutside m n ≡ false) where
+    pub header-length : (len ≡ fileLength m n → ⊥) → refused 4 ≡ headerOf file
+    header-length l = rw (past-kind, s, ne-eqb len (fileLength m n) l)
 
-            pub header-gives : length file ≡ fieldOf file 0 → gives (record { rows = m; columns = n }) ≡ headerOf file
-            header-gives e = rw (past-kind, s, eq-eqb (fieldOf file 0) (fileLength m n) l, eq-eqb (length file) (fieldOf file 0) e)
+    module _ (l : len ≡ fileLength m n) where
+      pub header-left : (length file ≡ len → ⊥) → refused 4 ≡ headerOf file
+      header-left e = rw (past-kind, s, eq-eqb len (fileLength m n) l, ne-eqb (length file) len e)
+
+      pub header-gives : length file ≡ len → gives (record { rows = m; columns = n }) ≡ headerOf file
+      header-gives e = rw (past-kind, s, eq-eqb len (fileLength m n) l, eq-eqb (length file) len e)
 
 -- what a header that passes says: the file is whole, and its fields are these
 pub record Header (file : List ℕ) (s : Sizes) : Type 0 where

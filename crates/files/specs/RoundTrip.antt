@@ -22,7 +22,7 @@ use Rattle.files.specs.Files.{fileLength, headerBytes, rowBytes, matrixF
 use Rattle.files.specs.Files.{unpacked, readOf, taken, aboveOne, writeOf}
 use Rattle.files.specs.Matrices.{equal-bits, tabled-whole, tabled-bits}
 use Rattle.files.specs.Sizes.{cell}
-use Rattle.files.specs.Checks.{header-gives, header-says, Read, matrix-read, unpacked-bit, read-room}
+use Rattle.files.specs.Checks.{Kinded, header-gives, header-says, Read, matrix-read, unpacked-bit, read-room}
 use Rattle.files.specs.Writing.{length-file, no-entry-above, head-gives, write-rest}
 
 -- ---- a written matrix reads as itself
@@ -66,8 +66,16 @@ module _ (M : Matrix) (ok : Accepted M) where
   header-same =
       let f = file-fields in
       let long = length-file M in
-      sym (header-gives (matrixFile M) (omega arith) (omega (arith, f .0)) (f .1) (M .rows) (M .columns) (sym (f .2)) (sym (f .3))
-      (accepted-sizes M ok) (f .0) (long ∙ sym (f .0)))
+      let passed : Kinded (matrixFile M) (fileLength (M .rows) (M .columns)) (M .rows) (M .columns) =
+      record {
+        long = omega arith;
+        length-is = sym (f .0);
+        there = omega arith;
+        kind-is = f .1;
+        rows-is = sym (f .2);
+        columns-is = sym (f .3);
+      } in
+      sym (header-gives passed (accepted-sizes M ok) refl long)
 
   body-same : bodyOf (matrixFile M) (sizes M) ≡ gives M
   unfolding bodyOf matrixFile headerBytes

@@ -193,11 +193,15 @@ write-sum m n entries room a c d e =
     rw (write-is m n entries room a, le-ltb (length entries) (m * n) c, d, entries-sum m n entries d ∙ e)
 
 -- the same of entries that have passed their checks
-module _ (m n : ℕ) (entries : List ℕ) (room : ℕ) (file : List ℕ) (all : room ≡ length file) (a : sizesOutside m n ≡ false)
-    (c : m * n ≤ length entries) (d : aboveOne (m * n) entries ≡ false)
-    (e : not (rowsFit entries 1 n m n) ≡ false) where
+pub record Entered (m n : ℕ) (entries : List ℕ) : Type 0 where
+  pub sized : sizesOutside m n ≡ false
+  pub there : m * n ≤ length entries
+  pub bits : aboveOne (m * n) entries ≡ false
+  pub sum : not (rowsFit entries 1 n m n) ≡ false
+
+module _ {m n : ℕ} {entries : List ℕ} (ok : Entered m n entries) (room : ℕ) (file : List ℕ) (all : room ≡ length file) where
   passes : writeOf m n entries room ≡ mapped (λ h. matrixFile (taken m n entries)) (writeHeaderOf m n room)
-  passes = write-rest m n entries room a c d (entries-sum m n entries d ∙ e)
+  passes = write-rest m n entries room (ok .sized) (ok .there) (ok .bits) (entries-sum m n entries (ok .bits) ∙ ok .sum)
 
   pub write-unheaded : (k : ℕ) (now : List ℕ) → Head m n room file (refused k) now → Wrote (writeOf m n entries room) file (refused k) now
   write-unheaded = ends-unheaded (taken m n entries) (writeOf m n entries room) room file all passes
