@@ -152,36 +152,35 @@ file-laid M f file x1 x2 h e e1 e2 =
     (rw place at (layAt-after 0 head (rowBytes M) file (omega (arith, long))) ∙ lay-is (head ++ rowBytes M) file)
 
 -- ---- the last step of what writes a matrix: its header's refusal, or the rows behind the header
--- what a header's writer leaves, with its answer, in a file with that room
-abbrev pub Head : ℕ → ℕ → ℕ → List ℕ → Outcome ℕ → List ℕ → Type 0
-Head m n room file answer now =
-    (answer ≡ mapped (λ h. fileLength m n) (writeHeaderOf m n room)) × (now ≡ lay (laid (λ h. h) (writeHeaderOf m n room)) file)
+-- what a header's writer leaves, with its answer
+abbrev pub Head : ℕ → ℕ → List ℕ → Outcome ℕ → List ℕ → Type 0
+Head m n file answer now =
+    let o = writeHeaderOf m n (length file) in (answer ≡ mapped (λ h. fileLength m n) o) × (now ≡ lay (laid (λ h. h) o) file)
 
 -- and what a file's does
 abbrev pub Wrote : Outcome (List ℕ) → List ℕ → Outcome ℕ → List ℕ → Type 0
 Wrote o file answer now = (answer ≡ mapped length o) × (now ≡ lay (laid (λ bytes. bytes) o) file)
 
 -- after a header there is room for the rows
-pub head-room : (m n len room : ℕ) (file now : List ℕ) → room ≡ length file → Head m n room file (gives len) now →
-    Sized m n × (fileLength m n ≤ length now)
-head-room m n len room file now all w =
-    let h = headed m n room len (w .0) in
+pub head-room : (m n len : ℕ) (file now : List ℕ) → Head m n file (gives len) now → Sized m n × (fileLength m n ≤ length now)
+head-room m n len file now w =
+    let h = headed m n (length file) len (w .0) in
     let long = length-header m n in
     let fits : length (headerBytes m n) ≤ length file = omega (arith, h .room-is) in
     (h .sized, rw (w .1, h .is, length-lay (headerBytes m n) file fits) (omega (arith, h .room-is)))
 
-module _ (M : Matrix) (o : Outcome (List ℕ)) (room : ℕ) (file : List ℕ) (all : room ≡ length file)
-    (is : o ≡ mapped (λ h. matrixFile M) (writeHeaderOf (M .rows) (M .columns) room)) where
-  pub ends-unheaded : (k : ℕ) (now : List ℕ) → Head (M .rows) (M .columns) room file (refused k) now → Wrote o file (refused k) now
+module _ (M : Matrix) (o : Outcome (List ℕ)) (file : List ℕ)
+    (is : o ≡ mapped (λ h. matrixFile M) (writeHeaderOf (M .rows) (M .columns) (length file))) where
+  pub ends-unheaded : (k : ℕ) (now : List ℕ) → Head (M .rows) (M .columns) file (refused k) now → Wrote o file (refused k) now
   ends-unheaded k now h =
-      let w = mapped-refused (λ h. fileLength (M .rows) (M .columns)) (writeHeaderOf (M .rows) (M .columns) room) k (h .0) in
+      let w = mapped-refused (λ h. fileLength (M .rows) (M .columns)) (writeHeaderOf (M .rows) (M .columns) (length file)) k (h .0) in
       rw (is, w) (refl, rw w at (h .1))
 
   pub ends-headed : (f : ℕ → ℕ → ℕ) (len : ℕ) (now now′ : List ℕ) → ((v c : ℕ) → v < M .rows → c < M .columns → f v c ≡ bit M v c) →
-      Head (M .rows) (M .columns) room file (gives len) now → now′ ≡ layAt 8 (blocks (M .rows) (λ v. packed (M .columns) (f v))) now →
+      Head (M .rows) (M .columns) file (gives len) now → now′ ≡ layAt 8 (blocks (M .rows) (λ v. packed (M .columns) (f v))) now →
       Wrote o file (gives len) now′
   ends-headed f len now now′ bits w r =
-      let h = headed (M .rows) (M .columns) room len (w .0) in
+      let h = headed (M .rows) (M .columns) (length file) len (w .0) in
       let whole : o ≡ gives (matrixFile M) = is ∙ rw (h .is) in
       let len-is : len ≡ fileLength (M .rows) (M .columns) = gives-inj (rw (h .is) at (w .0)) in
       ends-given length (λ bytes. bytes) (matrixFile M) len o file now′ whole (len-is ∙ sym (length-file M))
@@ -199,16 +198,16 @@ pub record Entered (m n : ℕ) (entries : List ℕ) : Type 0 where
   pub bits : aboveOne (m * n) entries ≡ false
   pub sum : not (rowsFit entries 1 n m n) ≡ false
 
-module _ {m n : ℕ} {entries : List ℕ} (ok : Entered m n entries) (room : ℕ) (file : List ℕ) (all : room ≡ length file) where
-  passes : writeOf m n entries room ≡ mapped (λ h. matrixFile (taken m n entries)) (writeHeaderOf m n room)
-  passes = write-rest m n entries room (ok .sized) (ok .there) (ok .bits) (entries-sum m n entries (ok .bits) ∙ ok .sum)
+module _ {m n : ℕ} {entries : List ℕ} (ok : Entered m n entries) (file : List ℕ) where
+  passes : writeOf m n entries (length file) ≡ mapped (λ h. matrixFile (taken m n entries)) (writeHeaderOf m n (length file))
+  passes = write-rest m n entries (length file) (ok .sized) (ok .there) (ok .bits) (entries-sum m n entries (ok .bits) ∙ ok .sum)
 
-  pub write-unheaded : (k : ℕ) (now : List ℕ) → Head m n room file (refused k) now → Wrote (writeOf m n entries room) file (refused k) now
-  write-unheaded = ends-unheaded (taken m n entries) (writeOf m n entries room) room file all passes
+  pub write-unheaded : (k : ℕ) (now : List ℕ) → Head m n file (refused k) now → Wrote (writeOf m n entries (length file)) file (refused k) now
+  write-unheaded = ends-unheaded (taken m n entries) (writeOf m n entries (length file)) file passes
 
-  pub write-headed : (len : ℕ) (now now′ : List ℕ) → Head m n room file (gives len) now →
+  pub write-headed : (len : ℕ) (now now′ : List ℕ) → Head m n file (gives len) now →
       now′ ≡ layAt 8 (blocks m (λ v. packed n (λ i. getD entries (v * n + i) 0))) now →
-      Wrote (writeOf m n entries room) file (gives len) now′
+      Wrote (writeOf m n entries (length file)) file (gives len) now′
   write-headed len now now′ =
-      ends-headed (taken m n entries) (writeOf m n entries room) room file all passes (λ v i. getD entries (v * n + i) 0) len now now′
+      ends-headed (taken m n entries) (writeOf m n entries (length file)) file passes (λ v i. getD entries (v * n + i) 0) len now now′
       (λ v i h l. sym (taken-bit m n entries v i h l))

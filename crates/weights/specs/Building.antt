@@ -41,10 +41,6 @@ module _ (usage : Usage) (weights : List ℕ) (n room : ℕ) where
   pub build-zero : sizesOutside (length weights) n ≡ false → sum usage weights ≡ 0 → buildOf usage weights n room ≡ refused 11
   build-zero a c = rw (build-is a, eq-eqb (sum usage weights) 0 c)
 
-  pub build-rest : sizesOutside (length weights) n ≡ false → (sum usage weights ≡ 0 → ⊥) →
-      buildOf usage weights n room ≡ mapped (λ h. matrixFile (built usage weights n)) (writeHeaderOf (length weights) n room)
-  build-rest a c = rw (build-is a, ne-eqb (sum usage weights) 0 c)
-
 -- ---- what is built
 module _ (usage : Usage) (weights : List ℕ) (n : ℕ) where
   -- the row of weight v, as a number
@@ -92,23 +88,23 @@ module _ (usage : Usage) (weights : List ℕ) (n : ℕ) where
       rw T (le-of-mul-le-mul-right {k = S} all z)
 
   -- the last step of building, past its checks
-  module _ (room : ℕ) (file : List ℕ) (all : room ≡ length file) (a : sizesOutside (length weights) n ≡ false)
-      (c : sum usage weights ≡ 0 → ⊥) where
-    passes : buildOf usage weights n room ≡ mapped (λ h. matrixFile (built usage weights n)) (writeHeaderOf (length weights) n room)
-    passes = build-rest usage weights n room a c
+  module _ (file : List ℕ) (a : sizesOutside (length weights) n ≡ false) (c : sum usage weights ≡ 0 → ⊥) where
+    passes : buildOf usage weights n (length file) ≡
+        mapped (λ h. matrixFile (built usage weights n)) (writeHeaderOf (length weights) n (length file))
+    passes = rw (build-is usage weights n (length file) a, ne-eqb (sum usage weights) 0 c)
 
-    pub build-unheaded : (k : ℕ) (now : List ℕ) → Head (length weights) n room file (refused k) now →
-        Wrote (buildOf usage weights n room) file (refused k) now
+    pub build-unheaded : (k : ℕ) (now : List ℕ) → Head (length weights) n file (refused k) now →
+        Wrote (buildOf usage weights n (length file)) file (refused k) now
     unfolding built
-    build-unheaded = ends-unheaded (built usage weights n) (buildOf usage weights n room) room file all passes
+    build-unheaded = ends-unheaded (built usage weights n) (buildOf usage weights n (length file)) file passes
 
-    pub build-headed : (len : ℕ) (now now′ : List ℕ) (s : ℕ) → s ≡ sum usage weights → Head (length weights) n room file (gives len) now →
+    pub build-headed : (len : ℕ) (now now′ : List ℕ) (s : ℕ) → s ≡ sum usage weights → Head (length weights) n file (gives len) now →
         now′ ≡ layAt 8 (blocks (length weights) (λ v. packed n (quotient s (counted usage v (getD weights v 0))))) now →
-        Wrote (buildOf usage weights n room) file (gives len) now′
+        Wrote (buildOf usage weights n (length file)) file (gives len) now′
     unfolding built
     build-headed len now now′ s e h r =
         let some : 0 < sum usage weights = omega arith in
-        ends-headed (built usage weights n) (buildOf usage weights n room) room file all passes
+        ends-headed (built usage weights n) (buildOf usage weights n (length file)) file passes
         (λ v. quotient (sum usage weights) (counted usage v (getD weights v 0))) len now now′ (built-quotient some) h (rw e at r)
 
   pub built-accepted : 1 ≤ length weights → length weights ≤ most-rows → 1 ≤ n → n ≤ most-columns → 0 < sum usage weights →

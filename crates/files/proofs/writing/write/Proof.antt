@@ -1,7 +1,7 @@
 -- `files::write` meets its contract: each return is a way through the checks; the last lays rows behind the header. Assumes nothing.
 use borrow.Author.Needs.{needs}
 use native.Mathlib.Omega.{arith}
-use mathlib.Core.Path.{_≡_, refl, sym, _∙_}
+use mathlib.Core.Path.{_≡_, sym, _∙_}
 use mathlib.Core.Bool.{false}
 use Rattle.laws.specs.Outcome.{ends-refused}
 use Rattle.files.specs.Matrix.{sizesOutside}
@@ -70,20 +70,20 @@ pack-rows-requires c κs =
     let wrote = c .before .before .before .before .before .before in
     let ok = entered (wrote .before .before) in
     let file = start (first (wrote .before .before)) .args .file .now in
-    let head = head-room _ _ _ _ file _ refl (rw (c .before .before .length .given .1) at (wrote .write-header .ensures)) in
+    let head = head-room _ _ _ file _ (rw (c .before .before .length .given .1) at (wrote .write-header .ensures)) in
     (head .0 .few-rows, head .0 .few-columns, ok .there, head .1, ok .bits)
 
 returns-5 : tie.Need-returns-5
 returns-5 c =
     let wrote = c .before .before .before .before .before in
     let at = wrote .before .before in
-    write-unheaded (entered at) _ (start (first at) .args .file .now) refl _ _ (rw (c .before .why .given .1) at (wrote .write-header .ensures))
+    write-unheaded (entered at) (start (first at) .args .file .now) _ _ (rw (c .before .why .given .1) at (wrote .write-header .ensures))
 
 returns-6 : tie.Need-returns-6
 returns-6 c =
     let wrote = c .before .before .before .before .before .before .before .before .before in
     let at = wrote .before .before in
-    write-headed (entered at) _ (start (first at) .args .file .now) refl _ _ _
+    write-headed (entered at) (start (first at) .args .file .now) _ _ _
     (rw (c .before .before .before .before .before .length .given .1) at (wrote .write-header .ensures))
     (c .before .before .pack-rows .ensures)
 
