@@ -5,15 +5,6 @@ use Rattle.files.specs.Checks.{header-says, file-refused, file-body}
 use Rattle.files.proofs.reading.check.Statement.{statement}
 use Rattle.files.proofs.reading.check.Tie as tie
 
-read-header-requires : tie.Need-read-header-requires
-read-header-requires c κs = search needs
-
-enum-known-why : tie.Need-enum-known-why
-enum-known-why c = search needs
-
-enum-known-rows : tie.Need-enum-known-rows
-enum-known-rows c = search needs
-
 body-requires : tie.Need-body-requires
 body-requires c κs = header-says _ _ (sym (rw (c .before .rows .given .1) at (c .before .before .before .read-header .ensures))) .sized
 
@@ -28,4 +19,4 @@ returns-2 c =
 pub check-spec : {M : Type 1} → statement M
 check-spec =
     tie.close
-    (tie.spec read-header-requires enum-known-why enum-known-rows body-requires returns returns-2)
+    (tie.spec (λ c κs. search needs) (λ c. search needs) (λ c. search needs) body-requires returns returns-2)
