@@ -10,7 +10,7 @@ use lib.ListN.{length, take, drop, length-drop}
 use Rattle.laws.specs.Sums.{sum-eq}
 use Rattle.laws.specs.Digits.{number, number-shift}
 use Rattle.laws.specs.Lists.{row-end, rest-is}
-use Rattle.laws.specs.Outcome.{Outcome, refused, gives, refuse, _>>_, _>>=_, passed, bound, mapped, mapped-gives, mapped-refused, gives-inj}
+use Rattle.laws.specs.Outcome.{refused, gives, refuse, _>>_, passed, bound, mapped, mapped-gives, mapped-refused, gives-inj}
 use Rattle.fields.specs.Limits.{most-columns, inside, within}
 use Rattle.fields.specs.Fields.{fieldOf, width, bitOf}
 use Rattle.fields.specs.Strings.{anySpare, stringsOf, strings-whole}
@@ -162,16 +162,7 @@ module _ (file : List ℕ) (s : Sizes) (w : Whole file s) where
   body-sum true w e q t = rw (body-is, ← e, live-sum (drop 8 file) s w q ∙ t)
   body-sum false w e q t = rw (body-is, ← e, live-sum (drop 8 file) s w q ∙ t)
 
--- ---- the file: from its header on
-pub file-refused : (file : List ℕ) (n : ℕ) → refused n ≡ headerOf file → refused n ≡ mapped sizes (matrixOf file)
-unfolding matrixOf
-file-refused file n e = rw (← e)
-
-pub file-body : (file : List ℕ) (s : Sizes) (o : Outcome Sizes) → gives s ≡ headerOf file → o ≡ mapped sizes (bodyOf file s) →
-    o ≡ mapped sizes (matrixOf file)
-unfolding matrixOf
-file-body file s o e q = rw (← e) q
-
+-- ---- the file
 -- what an accepted file says: its header, its spare bits, T, and that it is the matrix of its rows
 pub record Read (file : List ℕ) (M : Matrix) : Type 0 where
   pub sized : Whole file (sizes M)

@@ -5,7 +5,8 @@ use mathlib.Core.Bool.{Bool, true, false, _&&_}
 use mathlib.Core.List.{List}
 use mathlib.Core.Logic.{⊎-elim}
 use native.Mathlib.Omega.{arith}
-use native.Mathlib.Nat.{add-comm, one-mul, pow-succ', le-of-mul-le-mul-right, mul-le-mul-right, le-dest, sub-zero, min-eq-left, min-le-right}
+use native.Mathlib.Nat.{add-comm, one-mul, pow-succ', le-of-mul-le-mul-right, mul-le-mul-right, le-dest, sub-zero}
+use native.Mathlib.Nat.{min-eq-left, min-le-right}
 use native.Mathlib.Numerals.{add-one}
 use borrow.Author.Tests.{le-leb, lt-leb}
 use lib.Dec.{leb}

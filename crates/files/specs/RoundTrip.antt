@@ -2,7 +2,7 @@
 use Prim.Native.Nat.{ℕ, _+_, _*_, _/_, _%_, _^_, _≤_, _<_}
 use mathlib.Core.Path.{_≡_, refl, sym, ap, _∙_}
 use mathlib.Core.Bool.{false}
-use mathlib.Core.List.{List, [], _∷_, _++_}
+use mathlib.Core.List.{List, [], _∷_}
 use native.Mathlib.Omega.{arith}
 use borrow.Author.Tests.{le-ltb, ltb-false}
 use lib.Dec.{ltb}
@@ -12,7 +12,7 @@ use Rattle.laws.specs.Sums.{any-all, any-false}
 use Rattle.laws.specs.Digits.{number, number-shift, number-digit, digit}
 use Rattle.laws.specs.Lists.{blocks, upto, getD-blocks, length-blocks, getD-upto, table-ext, take-is}
 use Rattle.laws.specs.Lay.{lay, length-lay, take-lay, at-front}
-use Rattle.laws.specs.Outcome.{gives, refuse, _>>_, _>>=_, passed, bound, gives-inj}
+use Rattle.laws.specs.Outcome.{gives, refuse, _>>_, passed, bound, gives-inj}
 use Rattle.fields.specs.Limits.{most-columns, outside, inside, within}
 use Rattle.fields.specs.Fields.{fieldOf, fieldBytes, width, bitOf, packedBit, bit-le, padded, padded-below, padded-above, padded-both}
 use Rattle.fields.specs.Fields.{packed, packed-bit, length-packed, spare, spare-none, spare-zero}
@@ -41,12 +41,6 @@ module _ (M : Matrix) (ok : Accepted M) where
   abbrev at : ℕ → ℕ
   at v = v * width (M .columns)
 
-  file-fields :
-      (fieldOf (matrixFile M) 0 ≡ fileLength (M .rows) (M .columns)) × (fieldOf (matrixFile M) 2 ≡ 32) ×
-      (fieldOf (matrixFile M) 4 ≡ M .rows) × (fieldOf (matrixFile M) 6 ≡ M .columns)
-  unfolding fieldOf matrixFile headerBytes
-  file-fields = (omega arith, refl, omega arith, omega arith)
-
   row-bit : (v i : ℕ) → v < M .rows → i < 8 * width (M .columns) → bitOf (rowBytes M) (at v) i ≡ padded (M .columns) (bit M v) i
   row-bit v i h l = packed-bit (M .columns) (bit M) (M .rows) v i (λ c k. accepted-bits M ok v c h k) h l
 
@@ -63,17 +57,17 @@ module _ (M : Matrix) (ok : Accepted M) where
       unpacked-bit (rowBytes M) (sizes M) v c h l ∙ (row-bit v c h (omega arith) ∙ sym (padded-below (M .columns) (bit M v) c l)))
 
   header-same : headerOf (matrixFile M) ≡ gives (sizes M)
+  unfolding fieldOf matrixFile headerBytes
   header-same =
-      let f = file-fields in
       let long = length-file M in
       let passed : Kinded (matrixFile M) (fileLength (M .rows) (M .columns)) (M .rows) (M .columns) =
       record {
         long = omega arith;
-        length-is = sym (f .0);
+        length-is = omega arith;
         there = omega arith;
-        kind-is = f .1;
-        rows-is = sym (f .2);
-        columns-is = sym (f .3);
+        kind-is = refl;
+        rows-is = omega arith;
+        columns-is = omega arith;
       } in
       sym (header-gives passed (accepted-sizes M ok) refl long)
 
@@ -183,26 +177,24 @@ unfolding readOf
 read-then-write file entries room M bytes e h =
     let b = bound (matrixOf file) (λ X. refuse 13 (ltb (length entries) (X .rows * X .columns)) >> gives X) M e in
     let c = passed 13 (ltb (length entries) (b .0 .rows * b .0 .columns)) (gives (b .0)) M (b .2) in
-    written (b .1 ∙ c .1) (rw (gives-inj (c .1)) at (ltb-false (length entries) (b .0 .rows * b .0 .columns) (c .0)))
-  where
-    written : matrixOf file ≡ gives M → M .rows * M .columns ≤ length entries →
-        writeOf (M .rows) (M .columns) (lay (M .entries) entries) room ≡ gives file
-    written g l =
-        let laid : List ℕ = lay (M .entries) entries in
-        let ok = read-accepted file M g in
-        let sized = accepted-sizes M ok in
-        let back : taken (M .rows) (M .columns) laid ≡ M =
-        ap (λ (l : List ℕ). record { rows = M .rows; columns = M .columns; entries = l })
-        (take-lay (M .rows * M .columns) (M .entries) entries (ok .whole)) in
-        let long : M .rows * M .columns ≤ length laid = rw (length-lay (M .entries) entries (omega (arith, ok .whole))) l in
-        let small : aboveOne (M .rows * M .columns) laid ≡ false =
-        any-all (M .rows * M .columns) (λ i. ltb 1 (getD laid i 0))
-        (λ i k. le-ltb 1 (getD laid i 0) (rw (at-front (M .entries) entries i 0 (omega (arith, ok .whole))) (ok .bits i k))) in
-        let sum : ltb (2 ^ M .columns) (total (taken (M .rows) (M .columns) laid)) ≡ false =
-        rw back (le-ltb (2 ^ M .columns) (total M) (ok .sum)) in
-        write-rest (M .rows) (M .columns) laid room sized long small sum ∙
-        (rw (head-gives (M .rows) (M .columns) room sized (omega (arith, matrix-read file M g .sized .long)))
-        (ap gives (ap matrixFile back ∙ read-write file bytes M g)))
+    let g = b .1 ∙ c .1 in
+    let l : M .rows * M .columns ≤ length entries =
+    rw (gives-inj (c .1)) at (ltb-false (length entries) (b .0 .rows * b .0 .columns) (c .0)) in
+    let laid : List ℕ = lay (M .entries) entries in
+    let ok = read-accepted file M g in
+    let sized = accepted-sizes M ok in
+    let back : taken (M .rows) (M .columns) laid ≡ M =
+    ap (λ (l : List ℕ). record { rows = M .rows; columns = M .columns; entries = l })
+    (take-lay (M .rows * M .columns) (M .entries) entries (ok .whole)) in
+    let long : M .rows * M .columns ≤ length laid = rw (length-lay (M .entries) entries (omega (arith, ok .whole))) l in
+    let small : aboveOne (M .rows * M .columns) laid ≡ false =
+    any-all (M .rows * M .columns) (λ i. ltb 1 (getD laid i 0))
+    (λ i k. le-ltb 1 (getD laid i 0) (rw (at-front (M .entries) entries i 0 (omega (arith, ok .whole))) (ok .bits i k))) in
+    let sum : ltb (2 ^ M .columns) (total (taken (M .rows) (M .columns) laid)) ≡ false =
+    rw back (le-ltb (2 ^ M .columns) (total M) (ok .sum)) in
+    write-rest (M .rows) (M .columns) laid room sized long small sum ∙
+    (rw (head-gives (M .rows) (M .columns) room sized (omega (arith, matrix-read file M g .sized .long)))
+    (ap gives (ap matrixFile back ∙ read-write file bytes M g)))
 
 -- A written file is that of the matrix of the entries.
 pub written-is : (m n : ℕ) (entries file : List ℕ) (room : ℕ) → writeOf m n entries room ≡ gives file →

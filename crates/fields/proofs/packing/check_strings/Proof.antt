@@ -29,7 +29,8 @@ any-spare-requires c κs =
     let at = c .before .before in
     let s = start at .args in
     let small = within most-columns (s .columns) (inside at) in
-    (small .0, omega (arith, small .1), strings-room (s .count) _ (s .bytes .now) (inside at) (rw (c .before .width .ensures) at (c .if2 .left)))
+    let room = strings-room (s .count) _ (s .bytes .now) (inside at) (rw (c .before .width .ensures) at (c .if2 .left)) in
+    (small .0, omega (arith, small .1), room)
 
 returns-3 : tie.Need-returns-3
 returns-3 c =
