@@ -3,10 +3,12 @@ use Prim.Native.Nat.{ℕ, _+_, _-_, _*_, _/_, _^_, _≤_, _<_}
 use mathlib.Core.Path.{_≡_, refl, ap, _∙_, subst}
 use mathlib.Core.Bool.{Bool, true, false, not}
 use mathlib.Core.List.{List}
+use mathlib.Core.Logic.{⊎-elim}
 use native.Mathlib.Omega.{arith}
-use borrow.Author.Tests.{lt-ltb, le-ltb, eq-eqb, ne-eqb, ltb-false, leb-true, leb-false, eqb-true, not-false}
+use borrow.Author.Tests.{lt-ltb, le-ltb, eq-eqb, ne-eqb, ltb-false, le-leb, lt-leb, eqb-true, not-false}
 use lib.Dec.{eqb, ltb, leb}
 use lib.ListN.{length, take, drop, length-drop}
+use Rattle.laws.specs.Tests.{lt-or-ge}
 use Rattle.laws.specs.Sums.{sum-eq}
 use Rattle.laws.specs.Digits.{number, number-shift}
 use Rattle.laws.specs.Lists.{row-end, rest-is}
@@ -123,11 +125,8 @@ total-is M f e =
     (λ v l. number-shift (bit M v) (f v) 0 0 (M .columns) (λ i k. e v (0 + i) l (omega arith)))
 
 pub not-above : (t x : ℕ) → ltb x t ≡ not (leb t x)
-not-above t x = go (leb t x) refl
-  where
-    go : (b : Bool) → leb t x ≡ b → ltb x t ≡ not b
-    go true e = le-ltb x t (leb-true t x e)
-    go false e = lt-ltb x t (leb-false t x e)
+not-above t x =
+    ⊎-elim (λ (h : x < t). rw (lt-ltb x t h, lt-leb t x h)) (λ (h : t ≤ x). rw (le-ltb x t h, le-leb t x h)) (lt-or-ge x t)
 
 -- the live test of the packed rows is refusal 6's
 pub live-sum : (bytes : List ℕ) (s : Sizes) (w : ℕ) → w ≡ width (s .columns) →

@@ -48,14 +48,6 @@ total-step bit m c k =
       sum-times m (λ v. bit v c) (2 ^ k),
     )
 
-total-none : (bit : ℕ → ℕ → ℕ) (m c : ℕ) → total-from bit m c 0 ≡ 0
-unfolding total-from number
-total-none bit m c = omega (arith, sum-same m 0 (λ v. 0) (λ v. refl))
-
-pub ones-le : (bit : ℕ → ℕ → ℕ) (m c : ℕ) → ((v : ℕ) → v < m → bit v c ≤ 1) → ones-in bit m c ≤ m
-unfolding ones-in
-ones-le bit m c ok = omega (arith, sum-le m 1 (λ v. bit v c) ok)
-
 -- 2 * h - w places stay open, and what they have to cover is what h had to, less the column's share
 pub go-on : (w h t k s : ℕ) → h * 2 ^ suc k ≡ w * 2 ^ k + t + s → (x : ℕ) × (w + x ≡ 2 * h) × (x * 2 ^ k ≡ t + s)
 go-on w h t k s e =
@@ -82,11 +74,11 @@ fits-on w t H q x e =
 -- the cap at m loses nothing that a later column can see
 live-leb : (bit : ℕ → ℕ → ℕ) (m k c h H : ℕ) → ((v i : ℕ) → v < m → c ≤ i → i < c + k → bit v i ≤ 1) → min h m ≡ min H m →
     live bit m c h k ≡ leb (total-from bit m c k) (H * 2 ^ k)
-unfolding live
-live-leb bit m zero c h H ok e = sym (le-leb (total-from bit m c 0) (H * 2 ^ 0) (omega (arith, total-none bit m c)))
+unfolding live ones-in total-from number
+live-leb bit m zero c h H ok e = sym (le-leb (total-from bit m c 0) (H * 2 ^ 0) (omega (arith, sum-same m 0 (λ v. 0) (λ v. refl))))
 live-leb bit m (suc k) c h H ok e =
     let w : ℕ = ones-in bit m c in
-    let few : w ≤ m = ones-le bit m c (λ v l. ok v c l (omega arith) (omega arith)) in
+    let few : w ≤ m = omega (arith, sum-le m 1 (λ v. bit v c) (λ v l. ok v c l (omega arith) (omega arith))) in
     rw (total-step bit m c k, pow-succ' 2 k)
     (⊎-elim
     (λ (b : 2 * h < w).
@@ -126,9 +118,10 @@ module _ (bit : ℕ → ℕ → ℕ) (m n : ℕ) (whole : Bool) where
       let q : n - c ≡ 0 = omega arith in
       rw q at o
 
-pub open-first : (bit : ℕ → ℕ → ℕ) (m n : ℕ) → Open bit m n (live bit m 0 1 n) 0 1
+pub open-first : (bit : ℕ → ℕ → ℕ) (m n : ℕ) → ((v c : ℕ) → v < m → c < n → bit v c ≤ 1) →
+    Open bit m n (leb (total-from bit m 0 n) (2 ^ n)) 0 1
 unfolding Open
-open-first bit m n = rw (sub-zero n)
+open-first bit m n ok = rw (sub-zero n) (live-is bit m n ok)
 
 -- ---- a column, as it is read
 pub strided-read : (bytes : List ℕ) (first stride shift v : ℕ) →
