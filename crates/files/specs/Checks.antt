@@ -90,16 +90,16 @@ unfolding headerOf
 header-says file s e =
     let c1 = passed 1 (ltb (length file) 8) _ s e in
     let c2 = passed 1 (ltb (length file) (fieldOf file 0)) _ s (c1 .1) in
-    let c3 = passed 2 (not (eqb (fieldOf file 2) 32)) _ s (c2 .1) in
+    let c3 = passed 2 _ _ s (c2 .1) in
     let c4 = passed 3 _ _ s (c3 .1) in
     let c5 = passed 3 _ _ s (c4 .1) in
     let c6 = passed 4 _ _ s (c5 .1) in
     let c7 = passed 4 _ _ s (c6 .1) in
     let r = within most-rows (fieldOf file 4) (c4 .0) in
     let c = within most-columns (fieldOf file 6) (c5 .0) in
-    let k = eqb-true (fieldOf file 2) 32 (not-false _ (c3 .0)) in
-    let l = eqb-true (fieldOf file 0) (fileLength (fieldOf file 4) (fieldOf file 6)) (not-false _ (c6 .0)) in
-    let e = eqb-true (length file) (fieldOf file 0) (not-false _ (c7 .0)) in
+    let k = eqb-true _ _ (not-false _ (c3 .0)) in
+    let l = eqb-true _ _ (not-false _ (c6 .0)) in
+    let e = eqb-true _ _ (not-false _ (c7 .0)) in
     subst (Header file) (gives-inj (c7 .1))
     (record {
       sized = record { some-rows = r .0; few-rows = r .1; some-columns = c .0; few-columns = c .1; long = e ∙ l };

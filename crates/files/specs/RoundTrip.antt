@@ -13,7 +13,7 @@ use Rattle.laws.specs.Digits.{number, number-shift, number-digit, digit}
 use Rattle.laws.specs.Lists.{blocks, upto, getD-blocks, length-blocks, getD-upto, table-ext, take-is}
 use Rattle.laws.specs.Lay.{lay, length-lay, take-lay, at-front}
 use Rattle.laws.specs.Outcome.{gives, refuse, _>>_, passed, bound, gives-inj}
-use Rattle.fields.specs.Limits.{most-columns, outside, inside, within}
+use Rattle.fields.specs.Limits.{most-columns, inside, within}
 use Rattle.fields.specs.Fields.{fieldOf, fieldBytes, width, bitOf, packedBit, bit-le, padded, padded-below, padded-above, padded-both}
 use Rattle.fields.specs.Fields.{packed, packed-bit, length-packed, spare, spare-none, spare-zero}
 use Rattle.fields.specs.Strings.{anySpare}
@@ -201,24 +201,23 @@ pub written-is : (m n : ℕ) (entries file : List ℕ) (room : ℕ) → writeOf 
     matrixOf file ≡ gives (taken m n entries)
 unfolding writeOf
 written-is m n entries file room e =
-    let c1 = passed 3 (outside most-rows m) _ file e in
-    let c2 = passed 3 (outside most-columns n) _ file (c1 .1) in
-    let c3 = passed 13 (ltb (length entries) (m * n)) _ file (c2 .1) in
-    let c4 = passed 5 (aboveOne (m * n) entries) _ file (c3 .1) in
-    let c5 = passed 6 (ltb (2 ^ n) (total (taken m n entries))) _ file (c4 .1) in
+    let c1 = passed 3 _ _ file e in
+    let c2 = passed 3 _ _ file (c1 .1) in
+    let c3 = passed 13 _ _ file (c2 .1) in
+    let c4 = passed 5 _ _ file (c3 .1) in
+    let c5 = passed 6 _ _ file (c4 .1) in
     let c6 = passed 13 (ltb room (fileLength m n)) _ file (c5 .1) in
     let r = within most-rows m (c1 .0) in
     let c = within most-columns n (c2 .0) in
-    let long = ltb-false (length entries) (m * n) (c3 .0) in
     let ok : Accepted (taken m n entries) =
     record {
       some-rows = r .0;
       few-rows = r .1;
       some-columns = c .0;
       few-columns = c .1;
-      whole = length-take-le (m * n) entries long;
+      whole = length-take-le (m * n) entries (ltb-false _ _ (c3 .0));
       bits = λ i l. rw (getD-take (m * n) entries i 0 l) (no-entry-above (m * n) entries (c4 .0) i l);
-      sum = ltb-false (2 ^ n) (total (taken m n entries)) (c5 .0);
+      sum = ltb-false _ _ (c5 .0);
     } in
     rw (← gives-inj (c6 .1)) (write-read (taken m n entries) ok)
 

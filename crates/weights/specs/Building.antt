@@ -13,7 +13,7 @@ use Rattle.laws.specs.Digits.{number-shift, number-digit, digit, digit-le}
 use Rattle.laws.specs.Lists.{blocks}
 use Rattle.laws.specs.Lay.{layAt}
 use Rattle.laws.specs.Outcome.{refused, gives, refuse, _>>_, mapped, passed, gives-inj}
-use Rattle.fields.specs.Limits.{outside, most-columns, within}
+use Rattle.fields.specs.Limits.{most-columns, within}
 use Rattle.fields.specs.Fields.{packed}
 use Rattle.files.specs.Matrix.{Accepted, sizesOutside, bit, p, total, most-rows}
 use Rattle.files.specs.Files.{fileLength, matrixFile, matrixOf, readOf, writeHeaderOf}
@@ -124,9 +124,9 @@ pub built-is : (usage : Usage) (weights : List ℕ) (n room : ℕ) (file : List 
     matrixOf file ≡ gives (built usage weights n)
 unfolding buildOf
 built-is usage weights n room file e =
-    let c1 = passed 3 (outside most-rows (length weights)) _ file e in
-    let c2 = passed 3 (outside most-columns n) _ file (c1 .1) in
-    let c3 = passed 11 (eqb (sum usage weights) 0) _ file (c2 .1) in
+    let c1 = passed 3 _ _ file e in
+    let c2 = passed 3 _ _ file (c1 .1) in
+    let c3 = passed 11 _ _ file (c2 .1) in
     let c4 = passed 13 (ltb room (fileLength (length weights) n)) _ file (c3 .1) in
     let r = within most-rows (length weights) (c1 .0) in
     let c = within most-columns n (c2 .0) in
