@@ -53,70 +53,84 @@ unfoldable pub spare : List ℕ → ℕ → ℕ → Bool
 spare bytes n at = not (eqb (number (bitOf bytes at) n (8 * width n - n)) 0)
 
 -- ---- fields
-pub field-small : (bytes : List ℕ) (at : ℕ) → getD bytes at 0 < 256 → getD bytes (at + 1) 0 < 256 → fieldOf bytes at < 65536
-unfolding fieldOf
-field-small bytes at a b = omega arith
+module _ (bytes : List ℕ) (at : ℕ) where
+  pub field-small : getD bytes at 0 < 256 → getD bytes (at + 1) 0 < 256 → fieldOf bytes at < 65536
+  unfolding fieldOf
+  field-small a b = omega arith
 
-pub field-beyond : (bytes : List ℕ) (at : ℕ) → length bytes ≤ at → 0 ≡ fieldOf bytes at
-unfolding fieldOf
-field-beyond bytes at h = rw (List·getD-eq-default bytes 0 {n = at} h, List·getD-eq-default bytes 0 {n = at + 1} (omega arith))
+  pub field-beyond : length bytes ≤ at → 0 ≡ fieldOf bytes at
+  unfolding fieldOf
+  field-beyond h = rw (List·getD-eq-default bytes 0 {n = at} h, List·getD-eq-default bytes 0 {n = at + 1} (omega arith))
 
-pub field-laid : (bytes : List ℕ) (at a b : ℕ) → at + 2 ≤ length bytes → set (set bytes at a) (at + 1) b ≡ layAt at (a ∷ b ∷ []) bytes
-field-laid bytes at a b h =
-    set-is (at + 1) b (set bytes at a) (rw (length-set bytes at a) (omega arith)) ∙
-    (ap (layAt (at + 1) (b ∷ [])) (set-is at a bytes (omega arith)) ∙ layAt-after at (a ∷ []) (b ∷ []) bytes (omega arith))
+  pub field-laid : (a b : ℕ) → at + 2 ≤ length bytes → set (set bytes at a) (at + 1) b ≡ layAt at (a ∷ b ∷ []) bytes
+  field-laid a b h =
+      set-is (at + 1) b (set bytes at a) (rw (length-set bytes at a) (omega arith)) ∙
+      (ap (layAt (at + 1) (b ∷ [])) (set-is at a bytes (omega arith)) ∙ layAt-after at (a ∷ []) (b ∷ []) bytes (omega arith))
 
-pub stored-at : (bytes : List ℕ) (at x : ℕ) → at + 2 ≤ length bytes → stored bytes at x ≡ layAt at (fieldBytes x) bytes
-unfolding stored
-stored-at bytes at x h = rw (le-ltb (length bytes) (at + 2) h)
+  pub stored-at : (x : ℕ) → at + 2 ≤ length bytes → stored bytes at x ≡ layAt at (fieldBytes x) bytes
+  unfolding stored
+  stored-at x h = rw (le-ltb (length bytes) (at + 2) h)
 
-pub stored-none : (bytes : List ℕ) (at x : ℕ) → length bytes < at + 2 → bytes ≡ stored bytes at x
-unfolding stored
-stored-none bytes at x h = rw (lt-ltb (length bytes) (at + 2) h)
+  pub stored-none : (x : ℕ) → length bytes < at + 2 → bytes ≡ stored bytes at x
+  unfolding stored
+  stored-none x h = rw (lt-ltb (length bytes) (at + 2) h)
 
--- ---- bits
+  -- ---- bits
+  pub bit-beyond : (i : ℕ) → length bytes ≤ at + i / 8 → 0 ≡ bitOf bytes at i
+  unfolding packedBit digit
+  bit-beyond i h = rw (List·getD-eq-default bytes 0 {n = at + i / 8} h, zero-div)
+
+  pub bit-read : (i : ℕ) → bitAnd (getD bytes (at + i / 8) 0 / 2 ^ (7 - i % 8)) 1 ≡ bitOf bytes at i
+  unfolding packedBit digit
+  bit-read i = and-mask (getD bytes (at + i / 8) 0 / 2 ^ (7 - i % 8)) 1
+
 pub bit-le : (per : ℕ) (bytes : List ℕ) (at i : ℕ) → packedBit per bytes at i ≤ 1
 unfolding packedBit
 bit-le per bytes at i = digit-le per (getD bytes (at + i / per) 0) (i % per)
 
-pub bit-beyond : (bytes : List ℕ) (at i : ℕ) → length bytes ≤ at + i / 8 → 0 ≡ bitOf bytes at i
-unfolding packedBit digit
-bit-beyond bytes at i h = rw (List·getD-eq-default bytes 0 {n = at + i / 8} h, zero-div)
-
-pub bit-read : (bytes : List ℕ) (at i : ℕ) → bitAnd (getD bytes (at + i / 8) 0 / 2 ^ (7 - i % 8)) 1 ≡ bitOf bytes at i
-unfolding packedBit digit
-bit-read bytes at i = and-mask (getD bytes (at + i / 8) 0 / 2 ^ (7 - i % 8)) 1
-
 -- ---- spare bits
--- they are the low bits of the last byte
-pub spare-bits : (bytes : List ℕ) (n at : ℕ) → 0 < n →
-    number (bitOf bytes at) n (8 * width n - n) ≡ getD bytes (at + width n - 1) 0 % 2 ^ (8 * width n - n)
-unfolding packedBit
-spare-bits bytes n at h =
-    let s : ℕ = 8 * width n - n in
-    number-shift (bitOf bytes at) (digit 8 (getD bytes (at + width n - 1) 0)) n (8 - s) s
-    (λ i l. let place : at + (n + i) / 8 ≡ at + width n - 1 = omega arith in
-    let bit : (n + i) % 8 ≡ 8 - s + i = omega arith in
-    rw (place, bit)) ∙
-    low-digits 8 (getD bytes (at + width n - 1) 0) s (8 - s) (omega arith)
+module _ (bytes : List ℕ) (n at : ℕ) where
+  -- they are the low bits of the last byte
+  spare-bits : 0 < n → number (bitOf bytes at) n (8 * width n - n) ≡ getD bytes (at + width n - 1) 0 % 2 ^ (8 * width n - n)
+  unfolding packedBit
+  spare-bits h =
+      let s : ℕ = 8 * width n - n in
+      number-shift (bitOf bytes at) (digit 8 (getD bytes (at + width n - 1) 0)) n (8 - s) s
+      (λ i l. let place : at + (n + i) / 8 ≡ at + width n - 1 = omega arith in
+      let bit : (n + i) % 8 ≡ 8 - s + i = omega arith in
+      rw (place, bit)) ∙
+      low-digits 8 (getD bytes (at + width n - 1) 0) s (8 - s) (omega arith)
 
-pub spare-read : (bytes : List ℕ) (n at : ℕ) → 0 < n →
-    not (eqb (getD bytes (at + width n - 1) 0 % ((1 * 2 ^ (8 * width n - n)) % 2 ^ 64)) 0) ≡ spare bytes n at
-unfolding spare
-spare-read bytes n at h =
-    rw (shl-exact {a = 1} 1 (8 * width n - n) 64 (omega arith) (omega arith), one-mul (2 ^ (8 * width n - n)), spare-bits bytes n at h)
+  pub spare-read : 0 < n →
+      not (eqb (getD bytes (at + width n - 1) 0 % ((1 * 2 ^ (8 * width n - n)) % 2 ^ 64)) 0) ≡ spare bytes n at
+  unfolding spare
+  spare-read h =
+      rw (shl-exact {a = 1} 1 (8 * width n - n) 64 (omega arith) (omega arith), one-mul (2 ^ (8 * width n - n)), spare-bits h)
+
+  -- none is set exactly when each of them is 0
+  pub spare-none : ((i : ℕ) → n ≤ i → i < 8 * width n → bitOf bytes at i ≡ 0) → spare bytes n at ≡ false
+  unfolding spare
+  spare-none z =
+      let none = number-zero (bitOf bytes at) n (8 * width n - n) (λ i l. z (n + i) (omega arith) (omega arith)) in
+      rw (eq-eqb (number (bitOf bytes at) n (8 * width n - n)) 0 none)
+
+  pub spare-zero : spare bytes n at ≡ false → (i : ℕ) → n ≤ i → i < 8 * width n → bitOf bytes at i ≡ 0
+  unfolding spare
+  spare-zero e i a b =
+      zero-digits (bitOf bytes at) n (8 * width n - n) (λ j k l. bit-le 8 bytes at j) (eqb-true _ _ (not-false _ e)) i a (omega arith)
 
 pub divisor : (n : ℕ) → 0 < (1 * 2 ^ (8 * width n - n)) % 2 ^ 64
 divisor n = rw (shl-exact {a = 1} 1 (8 * width n - n) 64 (omega arith) (omega arith)) (omega (arith, pow-pos (8 * width n - n)))
 
 -- ---- padding
-pub padded-below : (n : ℕ) (f : ℕ → ℕ) (i : ℕ) → i < n → f i ≡ padded n f i
-unfolding padded
-padded-below n f i h = rw (lt-ltb i n h)
+module _ (n : ℕ) (f : ℕ → ℕ) (i : ℕ) where
+  pub padded-below : i < n → f i ≡ padded n f i
+  unfolding padded
+  padded-below h = rw (lt-ltb i n h)
 
-pub padded-above : (n : ℕ) (f : ℕ → ℕ) (i : ℕ) → n ≤ i → 0 ≡ padded n f i
-unfolding padded
-padded-above n f i h = rw (le-ltb i n h)
+  pub padded-above : n ≤ i → 0 ≡ padded n f i
+  unfolding padded
+  padded-above h = rw (le-ltb i n h)
 
 -- a fact of every padded place: those below n, and 0 above
 pub padded-both : (P : ℕ → Type 0) (n : ℕ) (f : ℕ → ℕ) (i : ℕ) → (i < n → P (f i)) → (n ≤ i → P 0) → P (padded n f i)
@@ -139,19 +153,6 @@ packed-eq n f g e =
 pub length-packed : (n : ℕ) (f : ℕ → ℕ) → length (packed n f) ≡ width n
 unfolding packed
 length-packed n f = length-upto (width n) (λ q. number (padded n f) (8 * q) 8)
-
--- no spare bit is set exactly when each of them is 0
-pub spare-none : (bytes : List ℕ) (n at : ℕ) → ((i : ℕ) → n ≤ i → i < 8 * width n → bitOf bytes at i ≡ 0) → spare bytes n at ≡ false
-unfolding spare
-spare-none bytes n at z =
-    let none : number (bitOf bytes at) n (8 * width n - n) ≡ 0 =
-    number-zero (bitOf bytes at) n (8 * width n - n) (λ i l. z (n + i) (omega arith) (omega arith)) in
-    rw (eq-eqb (number (bitOf bytes at) n (8 * width n - n)) 0 none)
-
-pub spare-zero : (bytes : List ℕ) (n at : ℕ) → spare bytes n at ≡ false → (i : ℕ) → n ≤ i → i < 8 * width n → bitOf bytes at i ≡ 0
-unfolding spare
-spare-zero bytes n at e i a b =
-    zero-digits (bitOf bytes at) n (8 * width n - n) (λ j k l. bit-le 8 bytes at j) (eqb-true _ _ (not-false _ e)) i a (omega arith)
 
 -- ---- packed rows, bit by bit
 -- bit i of packed row v: the row's bit below n, and 0 in the spare bits

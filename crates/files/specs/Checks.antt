@@ -3,14 +3,16 @@ use Prim.Native.Nat.{ℕ, _+_, _-_, _*_, _/_, _^_, _≤_, _<_}
 use mathlib.Core.Path.{_≡_, refl, ap, _∙_, subst}
 use mathlib.Core.Bool.{Bool, true, false, not}
 use mathlib.Core.List.{List}
+use mathlib.Core.Logic.{⊎-elim}
 use native.Mathlib.Omega.{arith}
-use borrow.Author.Tests.{lt-ltb, le-ltb, eq-eqb, ne-eqb, ltb-false, leb-true, leb-false, eqb-true, not-false}
+use borrow.Author.Tests.{lt-ltb, le-ltb, eq-eqb, ne-eqb, ltb-false, le-leb, lt-leb, eqb-true, not-false}
 use lib.Dec.{eqb, ltb, leb}
 use lib.ListN.{length, take, drop, length-drop}
+use Rattle.laws.specs.Tests.{lt-or-ge}
 use Rattle.laws.specs.Sums.{sum-eq}
 use Rattle.laws.specs.Digits.{number, number-shift}
 use Rattle.laws.specs.Lists.{row-end, rest-is}
-use Rattle.laws.specs.Outcome.{Outcome, refused, gives, refuse, _>>_, _>>=_, passed, bound, mapped, mapped-gives, mapped-refused, gives-inj}
+use Rattle.laws.specs.Outcome.{refused, gives, refuse, _>>_, passed, bound, mapped, mapped-gives, mapped-refused, gives-inj}
 use Rattle.fields.specs.Limits.{most-columns, inside, within}
 use Rattle.fields.specs.Fields.{fieldOf, width, bitOf}
 use Rattle.fields.specs.Strings.{anySpare, stringsOf, strings-whole}
@@ -36,29 +38,44 @@ module _ (file : List ℕ) where
       unfolding headerOf
       header-kind k = rw (le-ltb (length file) 8 a, le-ltb (length file) (fieldOf file 0) b, ne-eqb (fieldOf file 2) 32 k)
 
-      -- past shortness and kind
-      module _ (k : fieldOf file 2 ≡ 32) (m n : ℕ) (is-m : m ≡ fieldOf file 4) (is-n : n ≡ fieldOf file 6) where
-        past-kind : headerOf file ≡
-            (refuse 3 (sizesOutside m n) >> (refuse 4 (not (eqb (fieldOf file 0) (fileLength m n))) >>
-            (refuse 4 (not (eqb (length file) (fieldOf file 0))) >> gives (record { rows = m; columns = n }))))
-        unfolding headerOf
-        past-kind =
-            rw (is-m, is-n, le-ltb (length file) 8 a, le-ltb (length file) (fieldOf file 0) b, eq-eqb (fieldOf file 2) 32 k)
-            (sizes-refuse (fieldOf file 4) (fieldOf file 6) _)
+-- what has passed before the sizes are tried, with the fields as they were read
+pub record Kinded (file : List ℕ) (len m n : ℕ) : Type 0 where
+  pub long : 8 ≤ length file
+  pub length-is : len ≡ fieldOf file 0
+  pub there : len ≤ length file
+  pub kind-is : fieldOf file 2 ≡ 32
+  pub rows-is : m ≡ fieldOf file 4
+  pub columns-is : n ≡ fieldOf file 6
 
-        pub header-sizes : sizesOutside m n ≡ true → refused 3 ≡ headerOf file
-        header-sizes s = rw (past-kind, s)
+module _ {file : List ℕ} {len m n : ℕ} (k : Kinded file len m n) where
+  past-kind : headerOf file ≡
+      (refuse 3 (sizesOutside m n) >> (refuse 4 (not (eqb len (fileLength m n))) >>
+      (refuse 4 (not (eqb (length file) len)) >> gives (record { rows = m; columns = n }))))
+  unfolding headerOf
+  past-kind =
+      let there : fieldOf file 0 ≤ length file = rw (k .length-is) at (k .there) in
+      rw (
+        k .length-is,
+        k .rows-is,
+        k .columns-is,
+        le-ltb (length file) 8 (k .long),
+        le-ltb (length file) (fieldOf file 0) there,
+        eq-eqb (fieldOf file 2) 32 (k .kind-is),
+      ) (sizes-refuse (fieldOf file 4) (fieldOf file 6) _)
 
-        module _ (s : sizesOutside m n ≡ false) where
-          pub header-length : (fieldOf file 0 ≡ fileLength m n → ⊥) → refused 4 ≡ headerOf file
-          header-length l = rw (past-kind, s, ne-eqb (fieldOf file 0) (fileLength m n) l)
+  pub header-sizes : sizesOutside m n ≡ true → refused 3 ≡ headerOf file
+  header-sizes s = rw (past-kind, s)
 
-          module _ (l : fieldOf file 0 ≡ fileLength m n) where
-            pub header-left : (length file ≡ fieldOf file 0 → ⊥) → refused 4 ≡ headerOf file
-            header-left e = rw (past-kind, s, eq-eqb (fieldOf file 0) (fileLength m n) l, ne-eqb (length file) (fieldOf file 0) e)
+  module _ (s : sizesOutside m n ≡ false) where
+    pub header-length : (len ≡ fileLength m n → ⊥) → refused 4 ≡ headerOf file
+    header-length l = rw (past-kind, s, ne-eqb len (fileLength m n) l)
 
-            pub header-gives : length file ≡ fieldOf file 0 → gives (record { rows = m; columns = n }) ≡ headerOf file
-            header-gives e = rw (past-kind, s, eq-eqb (fieldOf file 0) (fileLength m n) l, eq-eqb (length file) (fieldOf file 0) e)
+    module _ (l : len ≡ fileLength m n) where
+      pub header-left : (length file ≡ len → ⊥) → refused 4 ≡ headerOf file
+      header-left e = rw (past-kind, s, eq-eqb len (fileLength m n) l, ne-eqb (length file) len e)
+
+      pub header-gives : length file ≡ len → gives (record { rows = m; columns = n }) ≡ headerOf file
+      header-gives e = rw (past-kind, s, eq-eqb len (fileLength m n) l, eq-eqb (length file) len e)
 
 -- what a header that passes says: the file is whole, and its fields are these
 pub record Header (file : List ℕ) (s : Sizes) : Type 0 where
@@ -73,16 +90,16 @@ unfolding headerOf
 header-says file s e =
     let c1 = passed 1 (ltb (length file) 8) _ s e in
     let c2 = passed 1 (ltb (length file) (fieldOf file 0)) _ s (c1 .1) in
-    let c3 = passed 2 (not (eqb (fieldOf file 2) 32)) _ s (c2 .1) in
+    let c3 = passed 2 _ _ s (c2 .1) in
     let c4 = passed 3 _ _ s (c3 .1) in
     let c5 = passed 3 _ _ s (c4 .1) in
     let c6 = passed 4 _ _ s (c5 .1) in
     let c7 = passed 4 _ _ s (c6 .1) in
     let r = within most-rows (fieldOf file 4) (c4 .0) in
     let c = within most-columns (fieldOf file 6) (c5 .0) in
-    let k = eqb-true (fieldOf file 2) 32 (not-false _ (c3 .0)) in
-    let l = eqb-true (fieldOf file 0) (fileLength (fieldOf file 4) (fieldOf file 6)) (not-false _ (c6 .0)) in
-    let e = eqb-true (length file) (fieldOf file 0) (not-false _ (c7 .0)) in
+    let k = eqb-true _ _ (not-false _ (c3 .0)) in
+    let l = eqb-true _ _ (not-false _ (c6 .0)) in
+    let e = eqb-true _ _ (not-false _ (c7 .0)) in
     subst (Header file) (gives-inj (c7 .1))
     (record {
       sized = record { some-rows = r .0; few-rows = r .1; some-columns = c .0; few-columns = c .1; long = e ∙ l };
@@ -108,11 +125,8 @@ total-is M f e =
     (λ v l. number-shift (bit M v) (f v) 0 0 (M .columns) (λ i k. e v (0 + i) l (omega arith)))
 
 pub not-above : (t x : ℕ) → ltb x t ≡ not (leb t x)
-not-above t x = go (leb t x) refl
-  where
-    go : (b : Bool) → leb t x ≡ b → ltb x t ≡ not b
-    go true e = le-ltb x t (leb-true t x e)
-    go false e = lt-ltb x t (leb-false t x e)
+not-above t x =
+    ⊎-elim (λ (h : x < t). rw (lt-ltb x t h, lt-leb t x h)) (λ (h : t ≤ x). rw (le-ltb x t h, le-leb t x h)) (lt-or-ge x t)
 
 -- the live test of the packed rows is refusal 6's
 pub live-sum : (bytes : List ℕ) (s : Sizes) (w : ℕ) → w ≡ width (s .columns) →
@@ -147,16 +161,7 @@ module _ (file : List ℕ) (s : Sizes) (w : Whole file s) where
   body-sum true w e q t = rw (body-is, ← e, live-sum (drop 8 file) s w q ∙ t)
   body-sum false w e q t = rw (body-is, ← e, live-sum (drop 8 file) s w q ∙ t)
 
--- ---- the file: from its header on
-pub file-refused : (file : List ℕ) (n : ℕ) → refused n ≡ headerOf file → refused n ≡ mapped sizes (matrixOf file)
-unfolding matrixOf
-file-refused file n e = rw (← e)
-
-pub file-body : (file : List ℕ) (s : Sizes) (o : Outcome Sizes) → gives s ≡ headerOf file → o ≡ mapped sizes (bodyOf file s) →
-    o ≡ mapped sizes (matrixOf file)
-unfolding matrixOf
-file-body file s o e q = rw (← e) q
-
+-- ---- the file
 -- what an accepted file says: its header, its spare bits, T, and that it is the matrix of its rows
 pub record Read (file : List ℕ) (M : Matrix) : Type 0 where
   pub sized : Whole file (sizes M)
@@ -171,13 +176,14 @@ matrix-read file M e =
     let b = bound (headerOf file) (bodyOf file) M e in
     let c5 = passed 5 _ _ M (b .2) in
     let c6 = passed 6 _ _ M (c5 .1) in
-    read (b .0) (b .1) (c5 .0) (ltb-false _ _ (c6 .0)) (gives-inj (c6 .1))
-  where
-    read : (s : Sizes) → headerOf file ≡ gives s → anySpare (s .rows) (s .columns) (drop 8 file) ≡ false →
-        total (unpacked (drop 8 file) s) ≤ 2 ^ s .columns → unpacked (drop 8 file) s ≡ M → Read file M
-    read s h a t q =
-        subst (Read file) q
-        (record { sized = header-says file s h .sized; header = h; no-spare = a; sum = t; is = refl })
+    subst (Read file) (gives-inj (c6 .1))
+    (record {
+      sized = header-says file (b .0) (b .1) .sized;
+      header = b .1;
+      no-spare = c5 .0;
+      sum = ltb-false _ _ (c6 .0);
+      is = refl;
+    })
 
 -- ---- reading
 module _ (file : List ℕ) (room : ℕ) where

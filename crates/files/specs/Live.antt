@@ -1,16 +1,19 @@
 -- T at most 2^n, decided column by column with no number above twice the rows. Assumes nothing.
 use Prim.Native.Nat.{ℕ, zero, suc, _+_, _*_, _-_, _/_, _%_, _^_, _≤_, _<_, min}
-use mathlib.Core.Path.{_≡_, refl, ap, _∙_}
+use mathlib.Core.Path.{_≡_, refl, sym, ap, _∙_}
 use mathlib.Core.Bool.{Bool, true, false, _&&_}
 use mathlib.Core.List.{List}
+use mathlib.Core.Logic.{⊎-elim}
 use native.Mathlib.Omega.{arith}
-use native.Mathlib.Nat.{add-comm, pow-succ', le-of-mul-le-mul-right, le-dest, sub-zero}
+use native.Mathlib.Nat.{add-comm, one-mul, pow-succ', le-of-mul-le-mul-right, mul-le-mul-right, le-dest, sub-zero}
+use native.Mathlib.Nat.{min-eq-left, min-le-right}
 use native.Mathlib.Numerals.{add-one}
 use borrow.Author.Tests.{le-leb, lt-leb}
-use lib.Dec.{T, leb, leb→le, le→leb}
+use lib.Dec.{leb}
 use lib.Pow.{pow-pos}
 use lib.Bits.{bitAnd}
 use lib.ListN.{getD}
+use Rattle.laws.specs.Tests.{lt-or-ge}
 use Rattle.laws.specs.Sums.{sumTo, sum-eq, sum-le, sum-same, sum-plus, sum-times}
 use Rattle.laws.specs.Digits.{number, digit}
 use Rattle.laws.specs.Words.{bitAt, bitAt-read}
@@ -45,14 +48,6 @@ total-step bit m c k =
       sum-times m (λ v. bit v c) (2 ^ k),
     )
 
-total-none : (bit : ℕ → ℕ → ℕ) (m c : ℕ) → total-from bit m c 0 ≡ 0
-unfolding total-from number
-total-none bit m c = omega (arith, sum-same m 0 (λ v. 0) (λ v. refl))
-
-pub ones-le : (bit : ℕ → ℕ → ℕ) (m c : ℕ) → ((v : ℕ) → v < m → bit v c ≤ 1) → ones-in bit m c ≤ m
-unfolding ones-in
-ones-le bit m c ok = omega (arith, sum-le m 1 (λ v. bit v c) ok)
-
 -- 2 * h - w places stay open, and what they have to cover is what h had to, less the column's share
 pub go-on : (w h t k s : ℕ) → h * 2 ^ suc k ≡ w * 2 ^ k + t + s → (x : ℕ) × (w + x ≡ 2 * h) × (x * 2 ^ k ≡ t + s)
 go-on w h t k s e =
@@ -61,73 +56,44 @@ go-on w h t k s e =
     let x = le-dest l in
     (x .0, x .1, omega (arith, ap (λ (y : ℕ). y * 2 ^ k) (x .1)))
 
-cap-twice : (a m : ℕ) → min (min a m) m ≡ min a m
-cap-twice a m = omega arith
-
 cap-on : (m w h H : ℕ) → w ≤ m → min h m ≡ min H m → min (2 * h - w) m ≡ min (2 * H - w) m
 cap-on m w h H l e = omega arith
 
+-- no room with h places open is none with H
+none-open : (m w t h H q : ℕ) → w ≤ m → min h m ≡ min H m → 2 * h < w → 0 < q → H * (2 * q) < w * q + t
+none-open m w t h H q l e b z =
+    let over : 2 * H < w = omega arith in
+    omega (arith, mul-le-mul-right {m = suc (2 * H)} {n = w} q over)
+
+fits-on : (w t H q x : ℕ) → w + x ≡ 2 * H → leb t (x * q) ≡ leb (w * q + t) (H * (2 * q))
+fits-on w t H q x e =
+    let split : w * q + x * q ≡ 2 * H * q = omega (arith, ap (λ (z : ℕ). z * q) e) in
+    ⊎-elim (λ (l : x * q < t). lt-leb t (x * q) l ∙ sym (lt-leb (w * q + t) (H * (2 * q)) (omega arith)))
+    (λ (l : t ≤ x * q). le-leb t (x * q) l ∙ sym (le-leb (w * q + t) (H * (2 * q)) (omega arith))) (lt-or-ge (x * q) t)
+
 -- the cap at m loses nothing that a later column can see
-pub cap-step : (m w h H : ℕ) → w ≤ m → min h m ≡ min H m → min (min (2 * h - w) m) m ≡ min (2 * H - w) m
-cap-step m w h H l e = cap-twice (2 * h - w) m ∙ cap-on m w h H l e
-
-and-left : (a b : Bool) → T (a && b) → T a
-and-left true b t = tt
-and-left false b t = t
-
-and-right : (a b : Bool) → T (a && b) → T b
-and-right true b t = t
-and-right false b t = absurd t
-
-and-both : (a b : Bool) → T a → T b → T (a && b)
-and-both true b s t = t
-and-both false b s t = s
-
-fits-on : (w t y q x : ℕ) → w + x ≡ y → t ≤ x * q → w * q + t ≤ y * q
-fits-on w t y q x e l = omega (arith, ap (λ (z : ℕ). z * q) e)
-
-module _ (bit : ℕ → ℕ → ℕ) (m : ℕ) where
-  live-fits : (k c h H : ℕ) → ((v i : ℕ) → v < m → c ≤ i → i < c + k → bit v i ≤ 1) → min h m ≡ min H m →
-      T (live bit m c h k) → total-from bit m c k ≤ H * 2 ^ k
-  unfolding live
-  live-fits zero c h H ok e t = omega (arith, total-none bit m c)
-  live-fits (suc k) c h H ok e t =
-      let w : ℕ = ones-in bit m c in
-      let wm : w ≤ m = ones-le bit m c (λ v l. ok v c l (omega arith) (omega arith)) in
-      let wh : w ≤ 2 * h = leb→le w (2 * h) (and-left (leb w (2 * h)) _ t) in
-      let wH : w + (2 * H - w) ≡ 2 * H = omega arith in
-      let ih : total-from bit m (suc c) k ≤ (2 * H - w) * 2 ^ k =
-      live-fits k (suc c) (min (2 * h - w) m) (2 * H - w) (λ v i l a b. ok v i l (omega arith) (omega arith)) (cap-step m w h H wm e)
-      (and-right (leb w (2 * h)) _ t) in
-      rw (pow-succ' 2 k) (omega (arith, total-step bit m c k, fits-on w (total-from bit m (suc c) k) (2 * H) (2 ^ k) (2 * H - w) wH ih))
-
-  fits-live : (k c h H : ℕ) → ((v i : ℕ) → v < m → c ≤ i → i < c + k → bit v i ≤ 1) → min h m ≡ min H m →
-      total-from bit m c k ≤ H * 2 ^ k → T (live bit m c h k)
-  unfolding live
-  fits-live zero c h H ok e t = tt
-  fits-live (suc k) c h H ok e t =
-      let w : ℕ = ones-in bit m c in
-      let wm : w ≤ m = ones-le bit m c (λ v l. ok v c l (omega arith) (omega arith)) in
-      let s : ℕ = H * 2 ^ suc k - total-from bit m c (suc k) in
-      let x = go-on w H (total-from bit m (suc c) k) k s (omega (arith, total-step bit m c k)) in
-      let xe : x .0 ≡ 2 * H - w = omega (arith, x .1) in
-      and-both (leb w (2 * h)) _ (le→leb w (2 * h) (omega (arith, x .1)))
-      (fits-live k (suc c) (min (2 * h - w) m) (2 * H - w) (λ v i l a b. ok v i l (omega arith) (omega arith)) (cap-step m w h H wm e)
-      (rw (← xe) (omega (arith, x .2))))
-
-same-test : (a b : Bool) → (T a → T b) → (T b → T a) → a ≡ b
-same-test true true f g = refl
-same-test true false f g = absurd (f tt)
-same-test false true f g = absurd (g tt)
-same-test false false f g = refl
+live-leb : (bit : ℕ → ℕ → ℕ) (m k c h H : ℕ) → ((v i : ℕ) → v < m → c ≤ i → i < c + k → bit v i ≤ 1) → min h m ≡ min H m →
+    live bit m c h k ≡ leb (total-from bit m c k) (H * 2 ^ k)
+unfolding live ones-in total-from number
+live-leb bit m zero c h H ok e = sym (le-leb (total-from bit m c 0) (H * 2 ^ 0) (omega (arith, sum-same m 0 (λ v. 0) (λ v. refl))))
+live-leb bit m (suc k) c h H ok e =
+    let w : ℕ = ones-in bit m c in
+    let few : w ≤ m = omega (arith, sum-le m 1 (λ v. bit v c) (λ v l. ok v c l (omega arith) (omega arith))) in
+    rw (total-step bit m c k, pow-succ' 2 k)
+    (⊎-elim
+    (λ (b : 2 * h < w).
+    rw (lt-leb w (2 * h) b) (sym (lt-leb _ _ (none-open m w (total-from bit m (suc c) k) h H (2 ^ k) few e b (pow-pos k)))))
+    (λ (b : w ≤ 2 * h).
+    rw (le-leb w (2 * h) b)
+    (live-leb bit m k (suc c) (min (2 * h - w) m) (2 * H - w) (λ v i l a b. ok v i l (omega arith) (omega arith))
+    (min-eq-left (min-le-right (2 * h - w) m) ∙ cap-on m w h H few e) ∙
+    fits-on w (total-from bit m (suc c) k) H (2 ^ k) (2 * H - w) (omega arith)))
+    (lt-or-ge (2 * h) w))
 
 -- every column has room exactly when the rows sum to at most 2^n, for every m and n
 pub live-is : (bit : ℕ → ℕ → ℕ) (m n : ℕ) → ((v c : ℕ) → v < m → c < n → bit v c ≤ 1) →
     live bit m 0 1 n ≡ leb (total-from bit m 0 n) (2 ^ n)
-live-is bit m n ok =
-    same-test (live bit m 0 1 n) (leb (total-from bit m 0 n) (2 ^ n))
-    (λ t. le→leb (total-from bit m 0 n) (2 ^ n) (omega (arith, live-fits bit m n 0 1 1 (λ v i l a b. ok v i l (omega arith)) refl t)))
-    (λ t. fits-live bit m n 0 1 1 (λ v i l a b. ok v i l (omega arith)) refl (omega (arith, leb→le (total-from bit m 0 n) (2 ^ n) t)))
+live-is bit m n ok = live-leb bit m n 0 1 1 (λ v i l a b. ok v i l (omega arith)) refl ∙ ap (leb (total-from bit m 0 n)) (one-mul (2 ^ n))
 
 -- ---- the same in the words of a loop over the columns: what is left from here on is what the whole comes to
 module _ (bit : ℕ → ℕ → ℕ) (m n : ℕ) (whole : Bool) where
@@ -152,9 +118,10 @@ module _ (bit : ℕ → ℕ → ℕ) (m n : ℕ) (whole : Bool) where
       let q : n - c ≡ 0 = omega arith in
       rw q at o
 
-pub open-first : (bit : ℕ → ℕ → ℕ) (m n : ℕ) → Open bit m n (live bit m 0 1 n) 0 1
+pub open-first : (bit : ℕ → ℕ → ℕ) (m n : ℕ) → ((v c : ℕ) → v < m → c < n → bit v c ≤ 1) →
+    Open bit m n (leb (total-from bit m 0 n) (2 ^ n)) 0 1
 unfolding Open
-open-first bit m n = rw (sub-zero n)
+open-first bit m n ok = rw (sub-zero n) (live-is bit m n ok)
 
 -- ---- a column, as it is read
 pub strided-read : (bytes : List ℕ) (first stride shift v : ℕ) →

@@ -2,7 +2,7 @@
 use Prim.Native.Nat.{ℕ, _+_, _*_, _/_, _%_, _^_, _≤_, _<_}
 use mathlib.Core.Path.{_≡_, refl, sym, ap, _∙_}
 use mathlib.Core.Bool.{false}
-use mathlib.Core.List.{List, [], _∷_, _++_}
+use mathlib.Core.List.{List, [], _∷_}
 use native.Mathlib.Omega.{arith}
 use borrow.Author.Tests.{le-ltb, ltb-false}
 use lib.Dec.{ltb}
@@ -12,8 +12,8 @@ use Rattle.laws.specs.Sums.{any-all, any-false}
 use Rattle.laws.specs.Digits.{number, number-shift, number-digit, digit}
 use Rattle.laws.specs.Lists.{blocks, upto, getD-blocks, length-blocks, getD-upto, table-ext, take-is}
 use Rattle.laws.specs.Lay.{lay, length-lay, take-lay, at-front}
-use Rattle.laws.specs.Outcome.{gives, refuse, _>>_, _>>=_, passed, bound, gives-inj}
-use Rattle.fields.specs.Limits.{most-columns, outside, within}
+use Rattle.laws.specs.Outcome.{gives, refuse, _>>_, passed, bound, gives-inj}
+use Rattle.fields.specs.Limits.{most-columns, inside, within}
 use Rattle.fields.specs.Fields.{fieldOf, fieldBytes, width, bitOf, packedBit, bit-le, padded, padded-below, padded-above, padded-both}
 use Rattle.fields.specs.Fields.{packed, packed-bit, length-packed, spare, spare-none, spare-zero}
 use Rattle.fields.specs.Strings.{anySpare}
@@ -21,45 +21,32 @@ use Rattle.files.specs.Matrix.{Matrix, sizes, sizesOutside, Accepted, bi
 use Rattle.files.specs.Files.{fileLength, headerBytes, rowBytes, matrixFile, headerOf, bodyOf, matrixOf}
 use Rattle.files.specs.Files.{unpacked, readOf, taken, aboveOne, writeOf}
 use Rattle.files.specs.Matrices.{equal-bits, tabled-whole, tabled-bits}
-use Rattle.files.specs.Sizes.{sizes-inside, cell}
-use Rattle.files.specs.Checks.{header-gives, header-says, Read, matrix-read, unpacked-bit, read-room}
+use Rattle.files.specs.Sizes.{cell}
+use Rattle.files.specs.Checks.{Kinded, header-gives, header-says, Read, matrix-read, unpacked-bit, read-room}
 use Rattle.files.specs.Writing.{length-file, no-entry-above, head-gives, write-rest}
 
 -- ---- a written matrix reads as itself
 -- its entries are bits
 pub accepted-bits : (M : Matrix) → Accepted M → (v c : ℕ) → v < M .rows → c < M .columns → bit M v c ≤ 1
 unfolding bit
-accepted-bits M ok v c h l = ok .bits (v * M .columns + c) (cell v (M .rows) (M .columns) c h l)
+accepted-bits M ok v c h l = ok .bits (v * M .columns + c) (cell h l)
 
 -- and its sizes are within their limits
 accepted-sizes : (M : Matrix) → Accepted M → sizesOutside (M .rows) (M .columns) ≡ false
 accepted-sizes M ok =
-    sizes-inside (M .rows) (M .columns)
-    (record { some-rows = ok .some-rows; few-rows = ok .few-rows; some-columns = ok .some-columns; few-columns = ok .few-columns })
+    rw (inside most-rows (M .rows) (ok .some-rows) (ok .few-rows)) (inside most-columns (M .columns) (ok .some-columns) (ok .few-columns))
 
 module _ (M : Matrix) (ok : Accepted M) where
   -- where row v begins
   abbrev at : ℕ → ℕ
   at v = v * width (M .columns)
 
-  file-fields :
-      (fieldOf (matrixFile M) 0 ≡ fileLength (M .rows) (M .columns)) × (fieldOf (matrixFile M) 2 ≡ 32) ×
-      (fieldOf (matrixFile M) 4 ≡ M .rows) × (fieldOf (matrixFile M) 6 ≡ M .columns)
-  unfolding fieldOf matrixFile headerBytes
-  file-fields = (omega arith, refl, omega arith, omega arith)
-
-  file-rest : drop 8 (matrixFile M) ≡ rowBytes M
-  unfolding matrixFile headerBytes
-  file-rest = refl
-
   row-bit : (v i : ℕ) → v < M .rows → i < 8 * width (M .columns) → bitOf (rowBytes M) (at v) i ≡ padded (M .columns) (bit M v) i
   row-bit v i h l = packed-bit (M .columns) (bit M) (M .rows) v i (λ c k. accepted-bits M ok v c h k) h l
 
   no-spare : anySpare (M .rows) (M .columns) (rowBytes M) ≡ false
-  no-spare = any-all (M .rows) (λ v. spare (rowBytes M) (M .columns) (at v)) (λ v h. one v h)
-    where
-      one : (v : ℕ) → v < M .rows → spare (rowBytes M) (M .columns) (at v) ≡ false
-      one v h = spare-none (rowBytes M) (M .columns) (at v) (λ i a b. row-bit v i h b ∙ sym (padded-above (M .columns) (bit M v) i a))
+  no-spare = any-all (M .rows) (λ v. spare (rowBytes M) (M .columns) (at v))
+      (λ v h. spare-none (rowBytes M) (M .columns) (at v) (λ i a b. row-bit v i h b ∙ sym (padded-above (M .columns) (bit M v) i a)))
 
   same : unpacked (rowBytes M) (sizes M) ≡ M
   unfolding unpacked
@@ -70,15 +57,23 @@ module _ (M : Matrix) (ok : Accepted M) where
       unpacked-bit (rowBytes M) (sizes M) v c h l ∙ (row-bit v c h (omega arith) ∙ sym (padded-below (M .columns) (bit M v) c l)))
 
   header-same : headerOf (matrixFile M) ≡ gives (sizes M)
+  unfolding fieldOf matrixFile headerBytes
   header-same =
-      let f = file-fields in
       let long = length-file M in
-      sym (header-gives (matrixFile M) (omega arith) (omega (arith, f .0)) (f .1) (M .rows) (M .columns) (sym (f .2)) (sym (f .3))
-      (accepted-sizes M ok) (f .0) (long ∙ sym (f .0)))
+      let passed : Kinded (matrixFile M) (fileLength (M .rows) (M .columns)) (M .rows) (M .columns) =
+      record {
+        long = omega arith;
+        length-is = omega arith;
+        there = omega arith;
+        kind-is = refl;
+        rows-is = omega arith;
+        columns-is = omega arith;
+      } in
+      sym (header-gives passed (accepted-sizes M ok) refl long)
 
   body-same : bodyOf (matrixFile M) (sizes M) ≡ gives M
-  unfolding bodyOf
-  body-same = rw (file-rest, no-spare, same, le-ltb (2 ^ M .columns) (total M) (ok .sum))
+  unfolding bodyOf matrixFile headerBytes
+  body-same = rw (no-spare, same, le-ltb (2 ^ M .columns) (total M) (ok .sum))
 
   pub write-read : matrixOf (matrixFile M) ≡ gives M
   unfolding matrixOf
@@ -92,16 +87,14 @@ read-accepted file M e =
     let r = matrix-read file M e in
     let w = r .sized in
     let entries = ap (λ (X : Matrix). X .entries) (r .is) in
+    let row : ℕ → ℕ → ℕ = λ v. bitOf (drop 8 file) (v * width (M .columns)) in
     record {
       some-rows = w .some-rows;
       few-rows = w .few-rows;
       some-columns = w .some-columns;
       few-columns = w .few-columns;
-      whole = rw entries (tabled-whole (M .rows) (M .columns) (λ v. bitOf (drop 8 file) (v * width (M .columns))));
-      bits =
-          rw entries
-          (tabled-bits (M .rows) (M .columns) (λ v. bitOf (drop 8 file) (v * width (M .columns)))
-          (λ v. bit-le 8 (drop 8 file) (v * width (M .columns))));
+      whole = rw entries (tabled-whole (M .rows) (M .columns) row);
+      bits = rw entries (tabled-bits (M .rows) (M .columns) row (λ v. bit-le 8 (drop 8 file) (v * width (M .columns))));
       sum = r .sum;
     }
 
@@ -133,10 +126,8 @@ module _ (file : List ℕ) (bytes : (i : ℕ) → getD file i 0 < 256) (M : Matr
       let kind = field-back file 2 32 (bytes 2) (f .kind-is) in
       let m = field-back file 4 (M .rows) (bytes 4) (f .rows-is) in
       let n = field-back file 6 (M .columns) (bytes 6) (f .columns-is) in
-      joined _ _ _ _ _ _ _ _ len kind m n ∙ sym (take-is 0 8 file (omega (arith, r .sized .long)))
-    where
-      joined : (a a′ b b′ c c′ d d′ : List ℕ) → a ≡ a′ → b ≡ b′ → c ≡ c′ → d ≡ d′ → a ++ b ++ c ++ d ≡ a′ ++ b′ ++ c′ ++ d′
-      joined a a′ b b′ c c′ d d′ p q r s = rw (p, q, r, s)
+      let front = take-is 0 8 file (omega (arith, r .sized .long)) in
+      cc
 
   -- below n the bits are the matrix's, and the spare bits are 0
   bit-back : (v i : ℕ) → v < M .rows → i < 8 * width (M .columns) → padded (M .columns) (bit M v) i ≡ bitOf rest (from v) i
@@ -179,12 +170,6 @@ module _ (file : List ℕ) (bytes : (i : ℕ) → getD file i 0 < 256) (M : Matr
 
 -- ---- the operations together
 -- An accepted file, read into any buffer and written again from it, is the same bytes.
-again : (M : Matrix) (entries : List ℕ) → length (M .entries) ≡ M .rows * M .columns →
-    taken (M .rows) (M .columns) (lay (M .entries) entries) ≡ M
-again M entries e =
-    ap (λ (l : List ℕ). record { rows = M .rows; columns = M .columns; entries = l })
-    (take-lay (M .rows * M .columns) (M .entries) entries e)
-
 pub read-then-write : (file entries : List ℕ) (room : ℕ) (M : Matrix) → ((i : ℕ) → getD file i 0 < 256) →
     readOf file (length entries) ≡ gives M → length file ≤ room →
     writeOf (M .rows) (M .columns) (lay (M .entries) entries) room ≡ gives file
@@ -192,48 +177,47 @@ unfolding readOf
 read-then-write file entries room M bytes e h =
     let b = bound (matrixOf file) (λ X. refuse 13 (ltb (length entries) (X .rows * X .columns)) >> gives X) M e in
     let c = passed 13 (ltb (length entries) (b .0 .rows * b .0 .columns)) (gives (b .0)) M (b .2) in
-    written (b .1 ∙ c .1) (rw (gives-inj (c .1)) at (ltb-false (length entries) (b .0 .rows * b .0 .columns) (c .0)))
-  where
-    written : matrixOf file ≡ gives M → M .rows * M .columns ≤ length entries →
-        writeOf (M .rows) (M .columns) (lay (M .entries) entries) room ≡ gives file
-    written g l =
-        let laid : List ℕ = lay (M .entries) entries in
-        let ok = read-accepted file M g in
-        let sized = accepted-sizes M ok in
-        let back = again M entries (ok .whole) in
-        let long : M .rows * M .columns ≤ length laid = rw (length-lay (M .entries) entries (omega (arith, ok .whole))) l in
-        let small : aboveOne (M .rows * M .columns) laid ≡ false =
-        any-all (M .rows * M .columns) (λ i. ltb 1 (getD laid i 0))
-        (λ i k. le-ltb 1 (getD laid i 0) (rw (at-front (M .entries) entries i 0 (omega (arith, ok .whole))) (ok .bits i k))) in
-        let sum : ltb (2 ^ M .columns) (total (taken (M .rows) (M .columns) laid)) ≡ false =
-        rw back (le-ltb (2 ^ M .columns) (total M) (ok .sum)) in
-        write-rest (M .rows) (M .columns) laid room sized long small sum ∙
-        (rw (head-gives (M .rows) (M .columns) room sized (omega (arith, matrix-read file M g .sized .long)))
-        (ap gives (ap matrixFile back ∙ read-write file bytes M g)))
+    let g = b .1 ∙ c .1 in
+    let l : M .rows * M .columns ≤ length entries =
+    rw (gives-inj (c .1)) at (ltb-false (length entries) (b .0 .rows * b .0 .columns) (c .0)) in
+    let laid : List ℕ = lay (M .entries) entries in
+    let ok = read-accepted file M g in
+    let sized = accepted-sizes M ok in
+    let back : taken (M .rows) (M .columns) laid ≡ M =
+    ap (λ (l : List ℕ). record { rows = M .rows; columns = M .columns; entries = l })
+    (take-lay (M .rows * M .columns) (M .entries) entries (ok .whole)) in
+    let long : M .rows * M .columns ≤ length laid = rw (length-lay (M .entries) entries (omega (arith, ok .whole))) l in
+    let small : aboveOne (M .rows * M .columns) laid ≡ false =
+    any-all (M .rows * M .columns) (λ i. ltb 1 (getD laid i 0))
+    (λ i k. le-ltb 1 (getD laid i 0) (rw (at-front (M .entries) entries i 0 (omega (arith, ok .whole))) (ok .bits i k))) in
+    let sum : ltb (2 ^ M .columns) (total (taken (M .rows) (M .columns) laid)) ≡ false =
+    rw back (le-ltb (2 ^ M .columns) (total M) (ok .sum)) in
+    write-rest (M .rows) (M .columns) laid room sized long small sum ∙
+    (rw (head-gives (M .rows) (M .columns) room sized (omega (arith, matrix-read file M g .sized .long)))
+    (ap gives (ap matrixFile back ∙ read-write file bytes M g)))
 
 -- A written file is that of the matrix of the entries.
 pub written-is : (m n : ℕ) (entries file : List ℕ) (room : ℕ) → writeOf m n entries room ≡ gives file →
     matrixOf file ≡ gives (taken m n entries)
 unfolding writeOf
 written-is m n entries file room e =
-    let c1 = passed 3 (outside most-rows m) _ file e in
-    let c2 = passed 3 (outside most-columns n) _ file (c1 .1) in
-    let c3 = passed 13 (ltb (length entries) (m * n)) _ file (c2 .1) in
-    let c4 = passed 5 (aboveOne (m * n) entries) _ file (c3 .1) in
-    let c5 = passed 6 (ltb (2 ^ n) (total (taken m n entries))) _ file (c4 .1) in
+    let c1 = passed 3 _ _ file e in
+    let c2 = passed 3 _ _ file (c1 .1) in
+    let c3 = passed 13 _ _ file (c2 .1) in
+    let c4 = passed 5 _ _ file (c3 .1) in
+    let c5 = passed 6 _ _ file (c4 .1) in
     let c6 = passed 13 (ltb room (fileLength m n)) _ file (c5 .1) in
     let r = within most-rows m (c1 .0) in
     let c = within most-columns n (c2 .0) in
-    let long = ltb-false (length entries) (m * n) (c3 .0) in
     let ok : Accepted (taken m n entries) =
     record {
       some-rows = r .0;
       few-rows = r .1;
       some-columns = c .0;
       few-columns = c .1;
-      whole = length-take-le (m * n) entries long;
+      whole = length-take-le (m * n) entries (ltb-false _ _ (c3 .0));
       bits = λ i l. rw (getD-take (m * n) entries i 0 l) (no-entry-above (m * n) entries (c4 .0) i l);
-      sum = ltb-false (2 ^ n) (total (taken m n entries)) (c5 .0);
+      sum = ltb-false _ _ (c5 .0);
     } in
     rw (← gives-inj (c6 .1)) (write-read (taken m n entries) ok)
 

@@ -7,7 +7,7 @@ use native.Mathlib.Nat.{mul-le-mul}
 use Rattle.laws.specs.Tests.{neither}
 use Rattle.laws.specs.Lists.{row-end}
 use Rattle.laws.specs.Outcome.{Outcome, refuse, _>>_}
-use Rattle.fields.specs.Limits.{most-columns, outside, inside, within}
+use Rattle.fields.specs.Limits.{most-columns, outside, within}
 use Rattle.fields.specs.Fields.{width}
 use Rattle.files.specs.Matrix.{most-rows, sizesOutside}
 use Rattle.files.specs.Files.{fileLength}
@@ -20,9 +20,6 @@ pub record Sized (m n : ℕ) : Type 0 where
   pub few-columns : n ≤ most-columns
 
 module _ (m n : ℕ) where
-  pub sizes-inside : Sized m n → sizesOutside m n ≡ false
-  sizes-inside s = rw (inside most-rows m (s .some-rows) (s .few-rows)) (inside most-columns n (s .some-columns) (s .few-columns))
-
   pub sizes-within : sizesOutside m n ≡ false → Sized m n
   sizes-within e =
       let s = neither (outside most-rows m) (outside most-columns n) e in
@@ -51,9 +48,9 @@ module _ (m n : ℕ) where
       omega (arith, mul-le-mul {n₁ = m} {m₁ = width n} {n₂ = 128} {m₂ = 16} (s .few-rows) (omega (arith, s .few-columns)))
 
 -- row v behind a header
-pub row-place : (v m n w size : ℕ) → v < m → w ≡ width n → 8 + m * width n ≤ size → 8 + v * w + width n ≤ size
-row-place v m n w size h e l = rw e (omega (arith, row-end {v = v} {m = m} {size = m * width n} (width n) (width n) h refl (omega arith)))
+pub row-place : {v m w size : ℕ} (n : ℕ) → v < m → w ≡ width n → 8 + m * width n ≤ size → 8 + v * w + width n ≤ size
+row-place {v} {m} {w} {size} n h e l = rw e (omega (arith, row-end {size = m * width n} (width n) (width n) h refl (omega arith)))
 
 -- place c of row v
-pub cell : (v m n c : ℕ) → v < m → c < n → v * n + c < m * n
-cell v m n c h l = omega (arith, row-end {v = v} {m = m} {size = m * n} n n h refl (omega arith))
+pub cell : {v m n c : ℕ} → v < m → c < n → v * n + c < m * n
+cell {v} {m} {n} {c} h l = omega (arith, row-end {size = m * n} n n h refl (omega arith))

@@ -1,6 +1,6 @@
 -- The ways through the checks of weights, and what is built: an accepted matrix whose rows are the shares. Assumes nothing.
 use Prim.Native.Nat.{ℕ, _+_, _*_, _^_, _≤_, _<_}
-use mathlib.Core.Path.{_≡_, refl, sym, ap, _∙_}
+use mathlib.Core.Path.{_≡_, sym, _∙_}
 use mathlib.Core.Bool.{true, false}
 use mathlib.Core.List.{List}
 use native.Mathlib.Omega.{arith}
@@ -13,7 +13,7 @@ use Rattle.laws.specs.Digits.{number-shift, number-digit, digit, digit-le}
 use Rattle.laws.specs.Lists.{blocks}
 use Rattle.laws.specs.Lay.{layAt}
 use Rattle.laws.specs.Outcome.{refused, gives, refuse, _>>_, mapped, passed, gives-inj}
-use Rattle.fields.specs.Limits.{outside, most-columns, within}
+use Rattle.fields.specs.Limits.{most-columns, within}
 use Rattle.fields.specs.Fields.{packed}
 use Rattle.files.specs.Matrix.{Accepted, sizesOutside, bit, p, total, most-rows}
 use Rattle.files.specs.Files.{fileLength, matrixFile, matrixOf, readOf, writeHeaderOf}
@@ -41,75 +41,68 @@ module _ (usage : Usage) (weights : List ℕ) (n room : ℕ) where
   pub build-zero : sizesOutside (length weights) n ≡ false → sum usage weights ≡ 0 → buildOf usage weights n room ≡ refused 11
   build-zero a c = rw (build-is a, eq-eqb (sum usage weights) 0 c)
 
-  pub build-rest : sizesOutside (length weights) n ≡ false → (sum usage weights ≡ 0 → ⊥) →
-      buildOf usage weights n room ≡ mapped (λ h. matrixFile (built usage weights n)) (writeHeaderOf (length weights) n room)
-  build-rest a c = rw (build-is a, ne-eqb (sum usage weights) 0 c)
-
 -- ---- what is built
 module _ (usage : Usage) (weights : List ℕ) (n : ℕ) where
-  -- the row of weight v, as a number
-  abbrev row : ℕ → ℕ
-  row v = share n (counted usage v (getD weights v 0)) (sum usage weights)
+  abbrev S : ℕ
+  S = sum usage weights
 
-  pub counted-le : (v : ℕ) → v < length weights → counted usage v (getD weights v 0) ≤ sum usage weights
+  -- weight v, and its row as a number
+  abbrev weight : ℕ → ℕ
+  weight v = counted usage v (getD weights v 0)
+
+  abbrev row : ℕ → ℕ
+  row v = share n (weight v) S
+
+  pub counted-le : (v : ℕ) → v < length weights → weight v ≤ S
   unfolding sum
-  counted-le v l = term-le (length weights) v (λ v. counted usage v (getD weights v 0)) l
+  counted-le v l = term-le (length weights) v weight l
 
   pub built-bit : (v c : ℕ) → v < length weights → c < n → bit (built usage weights n) v c ≡ digit n (row v) c
   unfolding built
   built-bit = tabled-bit (length weights) n (λ v. digit n (row v))
 
   -- the bits that the division finds
-  pub built-quotient : 0 < sum usage weights → (v c : ℕ) → v < length weights → c < n →
-      quotient (sum usage weights) (counted usage v (getD weights v 0)) c ≡ bit (built usage weights n) v c
+  pub built-quotient : 0 < S → (v c : ℕ) → v < length weights → c < n →
+      quotient S (weight v) c ≡ bit (built usage weights n) v c
   built-quotient z v c h l =
-      quotient-is (sum usage weights) (counted usage v (getD weights v 0)) n c z (counted-le v h) l ∙ sym (built-bit v c h l)
+      quotient-is S (weight v) n c z (counted-le v h) l ∙ sym (built-bit v c h l)
 
   -- row v is the share of weight v
   pub built-row : 0 < sum usage weights → (v : ℕ) → v < length weights → p (built usage weights n) v ≡ row v
   unfolding p built
   built-row z v h =
       number-shift (bit (built usage weights n) v) (digit n (row v)) 0 0 n (λ i l. built-bit v (0 + i) h (omega arith)) ∙
-      number-digit n (row v) (share-largest n (counted usage v (getD weights v 0)) (sum usage weights) z .fits)
+      number-digit n (row v) (share-largest n (weight v) S z .fits)
 
-  weights-sum : sumTo (length weights) (λ v. counted usage v (getD weights v 0)) ≡ sum usage weights
-  unfolding sum
-  weights-sum = refl
-
-  built-total : 0 < sum usage weights → total (built usage weights n) ≤ 2 ^ n
-  unfolding total built
+  built-total : 0 < S → total (built usage weights n) ≤ 2 ^ n
+  unfolding total built sum
   built-total z =
-      let S : ℕ = sum usage weights in
-      let w : ℕ → ℕ = λ v. counted usage v (getD weights v 0) in
-      let T : sumTo (length weights) (p (built usage weights n)) ≡ sumTo (length weights) row =
-      sum-eq (length weights) (p (built usage weights n)) row (λ v l. built-row z v l) in
-      let scaled : sumTo (length weights) row * S ≤ sumTo (length weights) w * 2 ^ n =
-      rw (← sum-times (length weights) row S, ← sum-times (length weights) w (2 ^ n))
-      (sum-mono (length weights) (λ v. row v * S) (λ v. w v * 2 ^ n)
-      (λ v l. rw (mul-comm (w v) (2 ^ n)) (share-largest n (w v) S z .not-above))) in
-      let whole : sumTo (length weights) w ≡ S = weights-sum in
-      let all : sumTo (length weights) row * S ≤ 2 ^ n * S = omega (arith, scaled, ap (λ (x : ℕ). x * 2 ^ n) whole) in
-      rw T (le-of-mul-le-mul-right {k = S} all z)
+      let m : ℕ = length weights in
+      let scaled : sumTo m row * S ≤ sumTo m weight * 2 ^ n =
+      rw (← sum-times m row S, ← sum-times m weight (2 ^ n))
+      (sum-mono m (λ v. row v * S) (λ v. weight v * 2 ^ n)
+      (λ v l. rw (mul-comm (weight v) (2 ^ n)) (share-largest n (weight v) S z .not-above))) in
+      rw (sum-eq m (p (built usage weights n)) row (built-row z)) (le-of-mul-le-mul-right {k = S} (omega (arith, scaled)) z)
 
   -- the last step of building, past its checks
-  module _ (room : ℕ) (file : List ℕ) (all : room ≡ length file) (a : sizesOutside (length weights) n ≡ false)
-      (c : sum usage weights ≡ 0 → ⊥) where
-    passes : buildOf usage weights n room ≡ mapped (λ h. matrixFile (built usage weights n)) (writeHeaderOf (length weights) n room)
-    passes = build-rest usage weights n room a c
+  module _ (file : List ℕ) (a : sizesOutside (length weights) n ≡ false) (c : S ≡ 0 → ⊥) where
+    passes : buildOf usage weights n (length file) ≡
+        mapped (λ h. matrixFile (built usage weights n)) (writeHeaderOf (length weights) n (length file))
+    passes = rw (build-is usage weights n (length file) a, ne-eqb S 0 c)
 
-    pub build-unheaded : (k : ℕ) (now : List ℕ) → Head (length weights) n room file (refused k) now →
-        Wrote (buildOf usage weights n room) file (refused k) now
+    pub build-unheaded : (k : ℕ) (now : List ℕ) → Head (length weights) n file (refused k) now →
+        Wrote (buildOf usage weights n (length file)) file (refused k) now
     unfolding built
-    build-unheaded = ends-unheaded (built usage weights n) (buildOf usage weights n room) room file all passes
+    build-unheaded = ends-unheaded (built usage weights n) (buildOf usage weights n (length file)) file passes
 
-    pub build-headed : (len : ℕ) (now now′ : List ℕ) (s : ℕ) → s ≡ sum usage weights → Head (length weights) n room file (gives len) now →
-        now′ ≡ layAt 8 (blocks (length weights) (λ v. packed n (quotient s (counted usage v (getD weights v 0))))) now →
-        Wrote (buildOf usage weights n room) file (gives len) now′
+    pub build-headed : (len : ℕ) (now now′ : List ℕ) (s : ℕ) → s ≡ S → Head (length weights) n file (gives len) now →
+        now′ ≡ layAt 8 (blocks (length weights) (λ v. packed n (quotient s (weight v)))) now →
+        Wrote (buildOf usage weights n (length file)) file (gives len) now′
     unfolding built
     build-headed len now now′ s e h r =
-        let some : 0 < sum usage weights = omega arith in
-        ends-headed (built usage weights n) (buildOf usage weights n room) room file all passes
-        (λ v. quotient (sum usage weights) (counted usage v (getD weights v 0))) len now now′ (built-quotient some) h (rw e at r)
+        let some : 0 < S = omega arith in
+        ends-headed (built usage weights n) (buildOf usage weights n (length file)) file passes
+        (λ v. quotient S (weight v)) len now now′ (built-quotient some) h (rw e at r)
 
   pub built-accepted : 1 ≤ length weights → length weights ≤ most-rows → 1 ≤ n → n ≤ most-columns → 0 < sum usage weights →
       Accepted (built usage weights n)
@@ -131,9 +124,9 @@ pub built-is : (usage : Usage) (weights : List ℕ) (n room : ℕ) (file : List 
     matrixOf file ≡ gives (built usage weights n)
 unfolding buildOf
 built-is usage weights n room file e =
-    let c1 = passed 3 (outside most-rows (length weights)) _ file e in
-    let c2 = passed 3 (outside most-columns n) _ file (c1 .1) in
-    let c3 = passed 11 (eqb (sum usage weights) 0) _ file (c2 .1) in
+    let c1 = passed 3 _ _ file e in
+    let c2 = passed 3 _ _ file (c1 .1) in
+    let c3 = passed 11 _ _ file (c2 .1) in
     let c4 = passed 13 (ltb room (fileLength (length weights) n)) _ file (c3 .1) in
     let r = within most-rows (length weights) (c1 .0) in
     let c = within most-columns n (c2 .0) in

@@ -1,6 +1,6 @@
 -- Long division gives a row's number: the largest n-bit number not above 2^n × w / s, for every n. Assumes nothing.
-use Prim.Native.Nat.{ℕ, zero, suc, _+_, _-_, _*_, _/_, _^_, _≤_, _<_, min}
-use mathlib.Core.Path.{_≡_, refl, sym, ap, _∙_, subst}
+use Prim.Native.Nat.{ℕ, zero, suc, _+_, _-_, _*_, _/_, _^_, _≤_, _<_}
+use mathlib.Core.Path.{_≡_, refl, sym, ap, _∙_}
 use mathlib.Core.Bool.{Bool, true, false}
 use mathlib.Core.Logic.{⊎-elim}
 use native.Mathlib.Omega.{arith}
@@ -11,6 +11,7 @@ use borrow.Author.Tests.{le-leb, lt-leb, leb-true, leb-false}
 use lib.Arith.{digits-div}
 use lib.Dec.{leb}
 use lib.Pow.{pow-pos}
+use Rattle.laws.specs.Tests.{reached}
 use Rattle.laws.specs.Digits.{number, number-more, number-lt, number-shift, digit, digit-number}
 use Rattle.fields.specs.Fields.{padded, padded-below, padded-above, padded-both}
 use Rattle.weights.specs.Weights.{share, next-rest, next-bit, rest-after, quotient, Stepped}
@@ -30,8 +31,7 @@ step-left s rest h l =
 record Split (s rest : ℕ) : Type 0 where
   is-bit : next-bit s rest ≤ 1
   sum : 2 * rest ≡ next-bit s rest * s + next-rest s rest
-  less : rest ≤ s → next-rest s rest ≤ s
-  strict : rest < s → next-rest s rest < s
+  less : (t : ℕ) → t ≤ s → s ≤ t + 1 → rest ≤ t → next-rest s rest ≤ t
 
 split : (s rest : ℕ) → Split s rest
 unfolding next-bit next-rest
@@ -40,22 +40,18 @@ split s rest = go (leb s (2 * rest)) refl
     go : (b : Bool) → leb s (2 * rest) ≡ b → Split s rest
     go true e =
         let l : s ≤ 2 * rest = leb-true s (2 * rest) e in
-        record { is-bit = rw e (omega arith); sum = rw e (omega arith); less = λ h. rw e (omega arith); strict = λ h. rw e (omega arith) }
+        record { is-bit = rw e (omega arith); sum = rw e (omega arith); less = λ t a b h. rw e (omega arith) }
     go false e =
         let l : 2 * rest < s = leb-false s (2 * rest) e in
-        record { is-bit = rw e (omega arith); sum = rw e (omega arith); less = λ h. rw e (omega arith); strict = λ h. rw e (omega arith) }
+        record { is-bit = rw e (omega arith); sum = rw e (omega arith); less = λ t a b h. rw e (omega arith) }
 
 -- ---- all steps
 module _ (s w : ℕ) where
-  pub rest-le : (c : ℕ) → w ≤ s → rest-after s w c ≤ s
+  -- what is left stays at most s, or below it
+  rest-le : (t : ℕ) → t ≤ s → s ≤ t + 1 → w ≤ t → (c : ℕ) → rest-after s w c ≤ t
   unfolding rest-after
-  rest-le zero h = h
-  rest-le (suc c) h = split s (rest-after s w c) .less (rest-le c h)
-
-  rest-lt : (c : ℕ) → w < s → rest-after s w c < s
-  unfolding rest-after
-  rest-lt zero h = h
-  rest-lt (suc c) h = split s (rest-after s w c) .strict (rest-lt c h)
+  rest-le t a b h zero = h
+  rest-le t a b h (suc c) = split s (rest-after s w c) .less t a b (rest-le t a b h c)
 
   pub quotient-le : (c : ℕ) → quotient s w c ≤ 1
   unfolding quotient
@@ -75,35 +71,28 @@ module _ (s w : ℕ) where
       step : (N R M q R′ : ℕ) → M ≡ 2 * N + q → 2 ^ c * w ≡ N * s + R → 2 * R ≡ q * s + R′ → 2 ^ suc c * w ≡ M * s + R′
       step N R M q R′ e i t = rw (pow-succ' 2 c, e) (omega arith)
 
-  bits : (n i : ℕ) → 0 ≤ i → i < 0 + n → quotient s w i ≤ 1
-  bits n i a b = quotient-le i
-
   -- the bits are the share
   pub quotient-share : (n : ℕ) → 0 < s → w ≤ s → number (quotient s w) 0 n ≡ share n w s
   unfolding share
   quotient-share n z h =
-      ⊎-elim (λ (e : w ≡ s). all-of-s e) (λ (l : w < s). part l) (eq-or-lt-of-le h)
-    where
-      small : number (quotient s w) 0 n < 2 ^ n
-      small = number-lt (quotient s w) 0 n (bits n)
-
-      part : w < s → number (quotient s w) 0 n ≡ min (2 ^ n * w / s) (2 ^ n - 1)
-      part l =
-          let q : 2 ^ n * w / s ≡ number (quotient s w) 0 n = rw (divided n) (digits-div (number (quotient s w) 0 n) (rest-lt n l)) in
-          rw q (omega (arith, small))
-
-      all-of-s : w ≡ s → number (quotient s w) 0 n ≡ min (2 ^ n * w / s) (2 ^ n - 1)
-      all-of-s e =
-          let q : 2 ^ n * w / s ≡ 2 ^ n = rw (e, ← add-zero (2 ^ n * s)) (digits-div (2 ^ n) z) in
-          let all : 2 ^ n * s ≡ number (quotient s w) 0 n * s + rest-after s w n = ap (λ (x : ℕ). 2 ^ n * x) (sym e) ∙ divided n in
-          let high : 2 ^ n * s ≤ suc (number (quotient s w) 0 n) * s = omega (arith, rest-le n h) in
-          let top : 2 ^ n ≤ suc (number (quotient s w) 0 n) = le-of-mul-le-mul-right {k = s} high z in
-          rw q (omega (arith, small))
+      let small = number-lt (quotient s w) 0 n (λ i a b. quotient-le i) in
+      ⊎-elim
+      (λ (e : w ≡ s).
+      let q : 2 ^ n * w / s ≡ 2 ^ n = rw (e, ← add-zero (2 ^ n * s)) (digits-div (2 ^ n) z) in
+      let all : 2 ^ n * s ≡ number (quotient s w) 0 n * s + rest-after s w n = ap (λ (x : ℕ). 2 ^ n * x) (sym e) ∙ divided n in
+      let high : 2 ^ n * s ≤ suc (number (quotient s w) 0 n) * s = omega (arith, rest-le s (omega arith) (omega arith) h n) in
+      let top : 2 ^ n ≤ suc (number (quotient s w) 0 n) = le-of-mul-le-mul-right {k = s} high z in
+      rw q (omega (arith, small)))
+      (λ (l : w < s).
+      let less : rest-after s w n < s = omega (arith, rest-le (s - 1) (omega arith) (omega arith) (omega arith) n) in
+      let q : 2 ^ n * w / s ≡ number (quotient s w) 0 n = rw (divided n) (digits-div (number (quotient s w) 0 n) less) in
+      rw q (omega (arith, small)))
+      (eq-or-lt-of-le h)
 
   pub quotient-is : (n c : ℕ) → 0 < s → w ≤ s → c < n → quotient s w c ≡ digit n (share n w s) c
   quotient-is n c z h l =
       let place : 0 + c ≡ c = omega arith in
-      rw (← quotient-share n z h) (sym (rw place at (digit-number (quotient s w) 0 n c (bits n) l)))
+      rw (← quotient-share n z h) (sym (rw place at (digit-number (quotient s w) 0 n c (λ i a b. quotient-le i) l)))
 
 -- ---- steps that go on from where others stopped
 pub rest-on : (s w c t : ℕ) → rest-after s (rest-after s w c) t ≡ rest-after s w (c + t)
@@ -111,13 +100,10 @@ unfolding rest-after
 rest-on s w c zero = rw (add-zero c)
 rest-on s w c (suc t) = rw (add-suc c t) (ap (next-rest s) (rest-on s w c t))
 
-quotient-on : (s w c t : ℕ) → quotient s (rest-after s w c) t ≡ quotient s w (c + t)
-unfolding quotient
-quotient-on s w c t = ap (next-bit s) (rest-on s w c t)
-
 -- byte q of a row: its eight steps from what the earlier bytes left
 pub byte-on : (s w n q rest : ℕ) → rest ≡ rest-after s w (8 * q) →
     number (padded (n - 8 * q) (quotient s rest)) 0 8 ≡ number (padded n (quotient s w)) (8 * q) 8
+unfolding quotient
 byte-on s w n q rest e =
     number-shift (padded (n - 8 * q) (quotient s rest)) (padded n (quotient s w)) 0 (8 * q) 8
     (λ i l. let z : 0 + i ≡ i = omega arith in
@@ -126,7 +112,7 @@ byte-on s w n q rest e =
     (λ h. on i ∙ padded-below n (quotient s w) (8 * q + i) (omega arith)) (λ h. padded-above n (quotient s w) (8 * q + i) (omega arith))))
   where
     on : (i : ℕ) → quotient s rest i ≡ quotient s w (8 * q + i)
-    on i = rw e (quotient-on s w (8 * q) i)
+    on i = rw e (ap (next-bit s) (rest-on s w (8 * q) i))
 
 pub rest-byte : (s w q rest : ℕ) → rest ≡ rest-after s w (8 * q) → rest-after s rest 8 ≡ rest-after s w (8 * (q + 1))
 rest-byte s w q rest e =
@@ -175,6 +161,4 @@ kept-is left s w t r b x e q k =
     (λ h. padded-above left (quotient s w) t h))
 
 pub rest-done : (s w t r : ℕ) → t ≤ 8 → 8 ≤ t → r ≡ rest-after s w t → r ≡ rest-after s w 8
-rest-done s w t r a b e =
-    let q : t ≡ 8 = omega arith in
-    subst (λ (k : ℕ). r ≡ rest-after s w k) q e
+rest-done s w t r = reached (λ k. r ≡ rest-after s w k) t 8

@@ -6,9 +6,6 @@ use Rattle.files.specs.Sizes.{file-small, sizes-within}
 use Rattle.files.proofs.headers.file_length.Statement.{statement}
 use Rattle.files.proofs.headers.file_length.Tie as tie
 
-width-requires : tie.Need-width-requires
-width-requires c κs = search needs
-
 mul-result : tie.Need-mul-result
 mul-result c =
     let s = c .before in
@@ -26,4 +23,4 @@ returns c =
     rw (c .width .ensures) (refl, omega arith, sizes-within (s .args .rows) (s .args .columns) (s .pre))
 
 pub file-length-spec : {M : Type 1} → statement M
-file-length-spec = tie.close (tie.spec width-requires mul-result add-result returns)
+file-length-spec = tie.close (tie.spec (λ c κs. search needs) mul-result add-result returns)

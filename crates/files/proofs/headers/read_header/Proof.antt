@@ -1,7 +1,7 @@
 -- `files::read_header` meets its contract: each return is a way through the checks. Assumes nothing.
 use borrow.Author.Needs.{needs}
 use mathlib.Core.Path.{sym, _∙_}
-use Rattle.files.specs.Checks.{header-short, header-cut, header-kind, header-sizes, header-length, header-left, header-gives}
+use Rattle.files.specs.Checks.{header-short, header-cut, header-kind, Kinded, header-sizes, header-length, header-left, header-gives}
 use Rattle.files.proofs.headers.read_header.Statement.{statement}
 use Rattle.files.proofs.headers.read_header.Tie as tie
 
@@ -20,16 +20,24 @@ returns-3 c =
     header-kind _ (long .before .if1 .left) (rw (long .field .ensures .0) at (there .if2 .left))
     (λ e. c .if3 .taken (c .before .field2 .ensures .0 ∙ e))
 
-returns-4 : tie.Need-returns-4
-returns-4 c =
-    let sizes = c .before in
-    let n = sizes .before in
-    let kind = n .before .before in
+kinded : (c : tie.After-field4) →
+    let long = c .before .before .before .before .before in
+    Kinded (long .before .before .before .args .file .now) (long .field .result) (c .before .field3 .result) (c .field4 .result)
+kinded c =
+    let kind = c .before .before in
     let there = kind .before .before in
     let long = there .before in
-    header-sizes _ (long .before .if1 .left) (rw (long .field .ensures .0) at (there .if2 .left))
-    (sym (kind .before .field2 .ensures .0) ∙ kind .if3 .left) _ _ (n .before .field3 .ensures .0) (n .field4 .ensures .0)
-    (sym (sizes .sizes-outside .ensures) ∙ c .if4 .taken)
+    record {
+      long = long .before .if1 .left;
+      length-is = long .field .ensures .0;
+      there = there .if2 .left;
+      kind-is = sym (kind .before .field2 .ensures .0) ∙ kind .if3 .left;
+      rows-is = c .before .field3 .ensures .0;
+      columns-is = c .field4 .ensures .0;
+    }
+
+returns-4 : tie.Need-returns-4
+returns-4 c = header-sizes (kinded (c .before .before)) (sym (c .before .sizes-outside .ensures) ∙ c .if4 .taken)
 
 file-length-requires : tie.Need-file-length-requires
 file-length-requires c κs = sym (c .before .sizes-outside .ensures) ∙ c .if4 .left
@@ -37,42 +45,22 @@ file-length-requires c κs = sym (c .before .sizes-outside .ensures) ∙ c .if4 
 returns-5 : tie.Need-returns-5
 returns-5 c =
     let sized = c .before .before in
-    let n = sized .before .before in
-    let kind = n .before .before in
-    let there = kind .before .before in
-    let long = there .before in
-    header-length _ (long .before .if1 .left) (rw (long .field .ensures .0) at (there .if2 .left))
-    (sym (kind .before .field2 .ensures .0) ∙ kind .if3 .left) _ _ (n .before .field3 .ensures .0) (n .field4 .ensures .0)
-    (sym (sized .before .sizes-outside .ensures) ∙ sized .if4 .left)
-    (λ e. c .if5 .taken (long .field .ensures .0 ∙ (e ∙ sym (c .before .file-length .ensures .0))))
+    header-length (kinded (sized .before .before)) (sym (sized .before .sizes-outside .ensures) ∙ sized .if4 .left)
+    (λ e. c .if5 .taken (e ∙ sym (c .before .file-length .ensures .0)))
 
 returns-6 : tie.Need-returns-6
 returns-6 c =
     let right = c .before in
     let sized = right .before .before in
-    let n = sized .before .before in
-    let kind = n .before .before in
-    let there = kind .before .before in
-    let long = there .before in
-    header-left _ (long .before .if1 .left) (rw (long .field .ensures .0) at (there .if2 .left))
-    (sym (kind .before .field2 .ensures .0) ∙ kind .if3 .left) _ _ (n .before .field3 .ensures .0) (n .field4 .ensures .0)
-    (sym (sized .before .sizes-outside .ensures) ∙ sized .if4 .left)
-    (sym (long .field .ensures .0) ∙ (right .if5 .left ∙ right .before .file-length .ensures .0))
-    (λ e. c .if6 .taken (e ∙ sym (long .field .ensures .0)))
+    header-left (kinded (sized .before .before)) (sym (sized .before .sizes-outside .ensures) ∙ sized .if4 .left)
+    (right .if5 .left ∙ right .before .file-length .ensures .0) (c .if6 .taken)
 
 returns-7 : tie.Need-returns-7
 returns-7 c =
     let right = c .before in
     let sized = right .before .before in
-    let n = sized .before .before in
-    let kind = n .before .before in
-    let there = kind .before .before in
-    let long = there .before in
-    header-gives _ (long .before .if1 .left) (rw (long .field .ensures .0) at (there .if2 .left))
-    (sym (kind .before .field2 .ensures .0) ∙ kind .if3 .left) _ _ (n .before .field3 .ensures .0) (n .field4 .ensures .0)
-    (sym (sized .before .sizes-outside .ensures) ∙ sized .if4 .left)
-    (sym (long .field .ensures .0) ∙ (right .if5 .left ∙ right .before .file-length .ensures .0))
-    (c .if6 .left ∙ long .field .ensures .0)
+    header-gives (kinded (sized .before .before)) (sym (sized .before .sizes-outside .ensures) ∙ sized .if4 .left)
+    (right .if5 .left ∙ right .before .file-length .ensures .0) (c .if6 .left)
 
 pub read-header-spec : {M : Type 1} → statement M
 read-header-spec =

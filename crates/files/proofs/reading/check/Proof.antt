@@ -1,31 +1,25 @@
 -- `files::check` meets its contract: the header's checks, then those of the rows. Assumes nothing.
 use borrow.Author.Needs.{needs}
 use mathlib.Core.Path.{sym}
-use Rattle.files.specs.Checks.{header-says, file-refused, file-body}
+use Rattle.files.specs.Files.{matrixOf}
+use Rattle.files.specs.Checks.{header-says}
 use Rattle.files.proofs.reading.check.Statement.{statement}
 use Rattle.files.proofs.reading.check.Tie as tie
-
-read-header-requires : tie.Need-read-header-requires
-read-header-requires c κs = search needs
-
-enum-known-why : tie.Need-enum-known-why
-enum-known-why c = search needs
-
-enum-known-rows : tie.Need-enum-known-rows
-enum-known-rows c = search needs
 
 body-requires : tie.Need-body-requires
 body-requires c κs = header-says _ _ (sym (rw (c .before .rows .given .1) at (c .before .before .before .read-header .ensures))) .sized
 
 returns : tie.Need-returns
-returns c = file-refused _ _ (rw (c .before .why .given .1) at (c .before .before .before .read-header .ensures))
+unfolding matrixOf
+returns c = rw (← (rw (c .before .why .given .1) at (c .before .before .before .read-header .ensures)))
 
 returns-2 : tie.Need-returns-2
+unfolding matrixOf
 returns-2 c =
     let told = c .before .before in
-    file-body _ _ _ (rw (told .rows .given .1) at (told .before .before .read-header .ensures)) (c .body .ensures)
+    rw (← (rw (told .rows .given .1) at (told .before .before .read-header .ensures))) (c .body .ensures)
 
 pub check-spec : {M : Type 1} → statement M
 check-spec =
     tie.close
-    (tie.spec read-header-requires enum-known-why enum-known-rows body-requires returns returns-2)
+    (tie.spec (λ c κs. search needs) (λ c. search needs) (λ c. search needs) body-requires returns returns-2)

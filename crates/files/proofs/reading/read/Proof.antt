@@ -28,12 +28,6 @@ sub-unpack c =
     let w = checked-whole _ _ (rw (told .rows .given .1) at (told .before .before .check .ensures)) in
     omega (arith, w .long)
 
-part-unpack-start : tie.Need-part-unpack-start
-part-unpack-start c =
-    let told = c .before .before in
-    let w = checked-whole _ _ (rw (told .rows .given .1) at (told .before .before .check .ensures)) in
-    omega (arith, w .long)
-
 unpack-requires : tie.Need-unpack-requires
 unpack-requires c κs = c .before .before .if1 .left
 
@@ -55,5 +49,5 @@ returns-3 c =
 pub read-spec : {M : Type 1} → statement M
 read-spec =
     tie.close
-    (tie.spec (λ c κs. search needs) (λ c. search needs) (λ c. search needs) mul-if1 returns sub-unpack part-unpack-start
+    (tie.spec (λ c κs. search needs) (λ c. search needs) (λ c. search needs) mul-if1 returns sub-unpack sub-unpack
     (λ c. search needs) unpack-requires returns-2 (λ c. search needs) returns-3)

@@ -4,12 +4,6 @@ use Rattle.fields.specs.Fields.{padded-below, padded-above}
 use Rattle.files.proofs.writing.entry.Statement.{statement}
 use Rattle.files.proofs.writing.entry.Tie as tie
 
-add-result : tie.Need-add-result
-add-result c = search needs
-
-shared-slice-read-result : tie.Need-shared-slice-read-result
-shared-slice-read-result c = search needs
-
 returns : tie.Need-returns
 returns c = padded-below _ _ _ (search needs)
 
@@ -17,4 +11,4 @@ returns-2 : tie.Need-returns-2
 returns-2 c = padded-above _ _ _ (search needs)
 
 pub entry-spec : {M : Type 1} → statement M
-entry-spec = tie.close (tie.spec add-result shared-slice-read-result returns returns-2)
+entry-spec = tie.close (tie.spec (λ c. search needs) (λ c. search needs) returns returns-2)

@@ -24,38 +24,36 @@ abbrev μ-loop : tie.MeasureT-loop
 loop-holds : tie.Need-loop-holds Inv-loop μ-loop
 loop-holds c = (search needs, search needs, blocks-none _ _ _)
 
+abbrev start : tie.In-loop Inv-loop μ-loop → tie.Start Inv-loop μ-loop
+start c = c .before .before .before .before .before
+
+-- the room of the row
+room : (c : tie.In-loop Inv-loop μ-loop) →
+    8 + c .before .loop .v * c .before .before .width .result + width (start c .args .n) ≤ length (start c .args .file .now)
+room c = row-place _ (c .loop-test .taken) (c .before .loop .inv .1) (start c .pre .2)
+
 mul-divide-row : tie.Need-mul-divide-row Inv-loop μ-loop
-mul-divide-row c =
-    let turn = c .before .before .before in
-    let s = turn .before .before .before .before .before in
-    record { fits = omega (arith, row-place _ _ _ _ _ (turn .loop-test .taken) (turn .before .loop .inv .1) (s .pre .2)) }
+mul-divide-row c = record { fits = omega (arith, room (c .before .before .before)) }
 
 add-divide-row : tie.Need-add-divide-row Inv-loop μ-loop
-add-divide-row c =
-    let turn = c .before .before .before in
-    let s = turn .before .before .before .before .before in
-    record { fits = omega (arith, row-place _ _ _ _ _ (turn .loop-test .taken) (turn .before .loop .inv .1) (s .pre .2)) }
+add-divide-row c = record { fits = omega (arith, room (c .before .before .before)) }
 
 divide-row-requires : tie.Need-divide-row-requires Inv-loop μ-loop
 divide-row-requires c κs =
-    let turn = c .before .before .before in
-    let at = turn .before .loop in
-    let s = turn .before .before .before .before .before in (
-      rw (c .before .counted-weight .ensures, s .pre .0) (counted-le _ _ 0 _ (turn .loop-test .taken)),
+    let turn = c .before .before .before in (
+      rw (c .before .counted-weight .ensures, start turn .pre .0) (counted-le _ _ 0 _ (turn .loop-test .taken)),
       search needs,
-      omega (arith, row-place _ _ _ _ _ (turn .loop-test .taken) (at .inv .1) (s .pre .2), at .inv .2 .long),
+      omega (arith, room turn, turn .before .loop .inv .2 .long),
     )
 
 loop-again : tie.Need-loop-again Inv-loop μ-loop
 loop-again c =
     let counted = c .before .before .before .before in
     let turn = counted .before .before in
-    let at = turn .before .loop in
-    let s = turn .before .before .before .before .before in
-    let room = row-place _ _ _ _ _ (turn .loop-test .taken) (at .inv .1) (s .pre .2) in (
+    let at = turn .before .loop in (
       search needs,
       search needs,
-      laid-block _ _ _ _ _ _ _ _ (λ v. length-packed _ _) (ap (λ (w : ℕ). 8 + at .v * w) (at .inv .1)) room
+      laid-block _ _ _ _ _ _ _ _ (λ v. length-packed _ _) (ap (λ (w : ℕ). 8 + at .v * w) (at .inv .1)) (room turn)
           (rw (counted .counted-weight .ensures) at (c .before .before .divide-row .ensures)) (at .inv .2),
     )
 

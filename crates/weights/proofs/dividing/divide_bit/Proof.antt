@@ -4,9 +4,6 @@ use Rattle.weights.specs.Division.{step-taken, step-left}
 use Rattle.weights.proofs.dividing.divide_bit.Statement.{statement}
 use Rattle.weights.proofs.dividing.divide_bit.Tie as tie
 
-mul-twice : tie.Need-mul-twice
-mul-twice c = search needs
-
 returns : tie.Need-returns
 returns c = step-taken _ _ (c .before .pre .0) (c .if1 .taken)
 
@@ -14,4 +11,4 @@ returns-2 : tie.Need-returns-2
 returns-2 c = step-left _ _ (c .before .pre .0) (c .if1 .left)
 
 pub divide-bit-spec : {M : Type 1} → statement M
-divide-bit-spec = tie.close (tie.spec mul-twice returns returns-2)
+divide-bit-spec = tie.close (tie.spec (λ c. search needs) returns returns-2)
