@@ -52,7 +52,7 @@ pub record Packed (bytes : List ℕ) (m n : ℕ) : Type 0 where
 
 -- what is counted of their program: k, and the instructions of the columns
 pub record Counts (bytes : List ℕ) (m n k count : ℕ) : Type 0 where
-  pub bits : k ≡ rowBits m
+  pub k-is : k ≡ rowBits m
   pub columns : count ≡ length (blocks n (column (rowBits m) m (rowsOf bytes n)))
 
 -- and its bytes
@@ -107,14 +107,14 @@ module _ {bytes : List ℕ} {m n k count : ℕ} (s : Counts bytes m n k count) w
   unfolding translation unpacked
   translation-packed =
       let same = unpacked-bit bytes (record { rows = m; columns = n }) in
-      rw (s .bits) (translation-eq m n (bit (packedMatrix bytes m n)) (rowsOf bytes n) same (rowBits m))
+      rw (s .k-is) (translation-eq m n (bit (packedMatrix bytes m n)) (rowsOf bytes n) same (rowBits m))
 
   program-packed : program (packedMatrix bytes m n) ≡ described k m n count
   unfolding program unpacked
   program-packed =
       let l : length (translation (packedMatrix bytes m n)) ≡ 3 + 2 * k + count =
-      ap length translation-packed ∙ (whole-length k m n (rowsOf bytes n) ∙ rw (s .bits, s .columns)) in
-      rw (l, s .bits)
+      ap length translation-packed ∙ (whole-length k m n (rowsOf bytes n) ∙ rw (s .k-is, s .columns)) in
+      rw (l, s .k-is)
 
   compiled-packed : compiled (packedMatrix bytes m n) ≡ programFile (described k m n count) code
   unfolding compiled
@@ -128,7 +128,7 @@ module _ {bytes : List ℕ} {m n k count : ℕ} (s : Counts bytes m n k count) w
       omega (arith, header-long (described k m n count), length-code code))
 
   code-bytes : (4 * n ≤ 10 * count) × (6 * (2 + k) + 10 * count - 4 * n + 8 * (1 + k) ≡ size code)
-  code-bytes = whole-bytes k m (rowsOf bytes n) n count (rw (s .bits) (s .columns))
+  code-bytes = whole-bytes k m (rowsOf bytes n) n count (rw (s .k-is) (s .columns))
 
   -- ---- what the measures say
   limits : Packed bytes m n → within (described k m n count) ≡ true

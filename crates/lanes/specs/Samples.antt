@@ -119,19 +119,19 @@ hit-read outputs j bit e = rw e
 
 -- the number is packed of the outputs from 1 to t - 1
 module _ (outputs : List ℕ) (j : ℕ) where
-  abbrev bits : ℕ → ℕ
-  bits t = bitAt (getD outputs (t + 1) 0) j
+  abbrev laneBit : ℕ → ℕ
+  laneBit t = bitAt (getD outputs (t + 1) 0) j
 
   pub number-more : (t b x : ℕ) → 1 ≤ t → t ≤ 8 → b ≡ bitAt (getD outputs t 0) j → b < 2 →
-      Packed bits (t - 1) x → Packed bits (t + 1 - 1) (bitOr x ((b * 2 ^ (t - 1)) % 2 ^ 8))
+      Packed laneBit (t - 1) x → Packed laneBit (t + 1 - 1) (bitOr x ((b * 2 ^ (t - 1)) % 2 ^ 8))
   number-more t b x l h e s p =
       let back : t - 1 + 1 ≡ t = omega arith in
       let on : t + 1 - 1 ≡ t - 1 + 1 = omega arith in
-      rw on (packed-more bits 8 (t - 1) b x (omega arith) (rw back e) s p)
+      rw on (packed-more laneBit 8 (t - 1) b x (omega arith) (rw back e) s p)
 
-  pub number-done : (t x : ℕ) → t ≤ length outputs → length outputs ≤ t → Packed bits (t - 1) x → x ≡ spelled outputs j
+  pub number-done : (t x : ℕ) → t ≤ length outputs → length outputs ≤ t → Packed laneBit (t - 1) x → x ≡ spelled outputs j
   unfolding spelled
-  number-done t x a b p = packed-done bits (t - 1) (length outputs - 1) x (omega arith) (omega arith) p
+  number-done t x a b p = packed-done laneBit (t - 1) (length outputs - 1) x (omega arith) (omega arith) p
 
 module _ (outputs : List ℕ) (j : ℕ) (hit : Bool) (e : hit ≡ laneHits outputs j) where
   pub lane-gives : (x : ℕ) → hit ≡ true → x ≡ spelled outputs j → sample x ≡ sampleOf outputs j

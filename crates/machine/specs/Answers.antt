@@ -1,29 +1,31 @@
 -- The ways of a start and a resume, in the words of their contracts, and what an accepted program says of its bytes. Assumes nothing.
 use Prim.Native.Nat.{ℕ, zero, suc, _≤_, _<_}
 use mathlib.Core.Path.{_≡_, refl, sym, ap, _∙_}
-use mathlib.Core.Bool.{Bool, true, false, _||_}
-use mathlib.Core.List.{List, _∷_, _++_}
+use mathlib.Core.Bool.{Bool, true, false, not, _||_}
+use mathlib.Core.List.{List, [], _∷_, _++_}
 use native.Mathlib.Omega.{arith}
 use borrow.Author.Tests.{le-ltb, lt-ltb}
 use lib.Dec.{ltb}
 use lib.ListN.{length, take, drop, length-take}
 use lib.Seq.{length-take-le}
+use Rattle.laws.specs.Sums.{any}
 use Rattle.laws.specs.Lay.{lay, lay-nothing}
-use Rattle.laws.specs.Outcome.{Outcome, refused, gives, refuse, _>>_, mapped, laid, mapped-gives, mapped-refused}
+use Rattle.laws.specs.Outcome.{Outcome, refused, gives, refuse, _>>_, passed, bound, gives-inj, mapped, laid, mapped-gives}
+use Rattle.laws.specs.Outcome.{mapped-refused}
 use Rattle.programs.specs.Instructions.{uses, lengthOf}
 use Rattle.programs.specs.Header.{header-length}
 use Rattle.programs.specs.declared.description.Program.{Program}
 use Rattle.programs.specs.declared.description.Instruction.{Instruction}
 use Rattle.machine.specs.Meaning.{wordGates}
-use Rattle.checker.specs.Checks.{Code, also, codeOf, nothing, checkOf}
+use Rattle.checker.specs.Checks.{Code, also, instructionOf, codeOf, nothing, checkOf}
 use Rattle.machine.specs.Runs.{Ended, runOf, roomFor}
 use Rattle.machine.specs.Calls.{Room, Sized, Entry, start, resume, onEntry, Call, callOn, begins, from, admits, call-is, call-gives}
 use Rattle.machine.specs.Calls.{cleared, lent, admitted, room-says, sized-from, sized-run}
 use Rattle.checker.specs.Standing.{readOf, Formed}
 use Rattle.machine.specs.Steps.{state}
 use Rattle.machine.specs.Turns.{Ends, prepared}
-use Rattle.checker.specs.Operands.{range-means, range-wider}
-use Rattle.checker.specs.Encoding.{code-says, code-ends, accepted-sound}
+use Rattle.checker.specs.Operands.{range-means, range-wider, instruction-means}
+use Rattle.checker.specs.Encoding.{accepted-sound}
 use Rattle.checker.specs.Checking.{check-says}
 use Rattle.machine.specs.declared.runs.Run.{Run}
 
@@ -61,17 +63,22 @@ code-stands : (p : Program) (n : ℕ) (written set : ℕ → Bool) (bytes : List
     ((inputs registers outputs : List ℕ) → Room p inputs registers outputs →
     Formed n (length registers) (length inputs) (length outputs) bytes) ×
     (readOf n bytes ≡ is)
-unfolding Formed readOf
-code-stands p zero written set bytes is e = (λ inputs registers outputs r. tt, sym (code-ends p written set bytes is e .1))
+unfolding codeOf Formed readOf
+code-stands p zero written set bytes is e =
+    let c1 = passed 4 (ltb 0 (length bytes)) (refuse 10 (any (p .outputs) (λ o. not (set o))) >> gives []) is e in
+    let c2 = passed 10 (any (p .outputs) (λ o. not (set o))) (gives []) is (c1 .1) in
+    (λ inputs registers outputs r. tt, gives-inj (c2 .1))
 code-stands p (suc n) written set bytes is e =
-    let c = code-says n p written set bytes is e in
-    let i = c .first in
-    let h = code-stands p n (also written (uses i .writes)) (also set (uses i .sets)) (drop (lengthOf i) bytes) (c .rest) (c .behind) in (
-      λ inputs registers outputs r. rw (c .read) (
-        range-wider _ _ _ _ _ _ i (r .for-registers) (r .for-inputs) (r .for-outputs) (range-means p i (c .in-range)),
+    let c1 = bound (instructionOf p written bytes) _ is e in
+    let i = c1 .0 in
+    let c2 = bound (codeOf n p (also written (uses i .writes)) (also set (uses i .sets)) (drop (lengthOf i) bytes)) _ is (c1 .2) in
+    let m = instruction-means p written bytes i (c1 .1) in
+    let h = code-stands p n (also written (uses i .writes)) (also set (uses i .sets)) (drop (lengthOf i) bytes) (c2 .0) (c2 .1) in (
+      λ inputs registers outputs r. rw (m .0) (
+        range-wider _ _ _ _ _ _ i (r .for-registers) (r .for-inputs) (r .for-outputs) (range-means p i (m .1)),
         h .0 inputs registers outputs r,
       ),
-      rw (c .read) (ap (λ (js : List Instruction). i ∷ js) (h .1) ∙ sym (c .split)),
+      rw (m .0) (ap (λ (js : List Instruction). i ∷ js) (h .1) ∙ gives-inj (c2 .2)),
     )
 
 pub accepted-file : (file : List ℕ) (p : Program) → gives p ≡ mapped (λ c. c .program) (checkOf file) → Accepted file p
@@ -184,7 +191,7 @@ module _ {k : Call ℕ} {p : Program} (f : Fits k p) where
       Answers k budget (gives r) (rs′ ++ drop (p .registers) (k .registers)) (os′ ++ drop (p .outputs) (k .outputs))
   unfolding lay
   call-ends g {budget} {r} {rs′} {os′} d =
-      (rw given, (rw (given, sized .of-registers), rw (given, sized .of-outputs)))
+      (rw result, (rw (result, sized .of-registers), rw (result, sized .of-outputs)))
     where
       a : Accepted (k .file) p
       a = accepted-file (k .file) p (f .checked)
@@ -195,8 +202,8 @@ module _ {k : Call ℕ} {p : Program} (f : Fits k p) where
       ran : runOf (k .gates) (a .code .instructions) (k .inputs) (begins k) budget (from k p) ≡ end
       ran = rw (← prepared-from g, g) (run-is a d)
 
-      given : callOn k budget ≡ gives end
-      given =
+      result : callOn k budget ≡ gives end
+      result =
           call-gives k budget (a .code)
           (record { accepted = a .checks; before-end = omega (arith, a .counted, f .here); room = rw (a .header) (f .room) }) ∙
           rw (a .header, ran)

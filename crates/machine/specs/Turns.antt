@@ -17,7 +17,7 @@ use Rattle.machine.specs.Meaning.{wordGates, exec}
 use Rattle.machine.specs.Runs.{steps, runAnswer}
 use Rattle.machine.specs.declared.runs.Run.{Run}
 use Rattle.checker.specs.Standing.{readOf, Formed, formed-less, Known, Standing, ReadyAt, Gate, Four}
-use Rattle.checker.specs.Standing.{read-first, formed-ready, some-ready, ready-room, formed-next}
+use Rattle.checker.specs.Standing.{read-first, some-ready, ready-room, formed-next}
 use Rattle.machine.specs.Steps.{state, Connective, gateKind, gateWords, Does, gate-long, is-gate, does-gate}
 
 -- ---- a run under way
@@ -216,7 +216,7 @@ unfolding readOf
 read-take zero n nr ni nq file at l f = refl
 read-take (suc m) zero nr ni nq file at l f = absurd (omega arith)
 read-take (suc m) (suc n) nr ni nq file at l f =
-    let r = formed-ready n nr ni nq file at f in
+    let r = some-ready (suc n) nr ni nq file at (omega arith) f in
     let i = r .i in
     let e = r .stands .reads in
     rw (e, drop-drop (lengthOf i) at file)

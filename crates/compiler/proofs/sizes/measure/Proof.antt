@@ -11,13 +11,13 @@ program-length-requires : tie.Need-program-length-requires
 program-length-requires c κs =
     let k = c .before .before in
     let count = rw (c .before .width .ensures) at (c .count-columns .ensures) in
-    countable (record { bits = k .row-bits .ensures; columns = count }) (k .before .before .pre)
+    countable (record { k-is = k .row-bits .ensures; columns = count }) (k .before .before .pre)
 
 returns : tie.Need-returns
 returns c =
     let columns = c .before in
     let count = rw (columns .before .width .ensures) at (columns .count-columns .ensures) in
-    measured (record { bits = columns .before .before .row-bits .ensures; columns = count }) (c .program-length .ensures)
+    measured (record { k-is = columns .before .before .row-bits .ensures; columns = count }) (c .program-length .ensures)
 
 pub measure-spec : {M : Type 1} → statement M
 measure-spec =
