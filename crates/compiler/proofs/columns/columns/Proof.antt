@@ -15,6 +15,11 @@ Inv-loop bytes stride k m n out₀ at h₀ to₀ c₀ out h to c =
 abbrev μ-loop : tie.MeasureT-loop
 μ-loop bytes stride k m n out₀ at h₀ to₀ c₀ out h to c = n - c
 
+loop-holds : tie.Need-loop-holds Inv-loop μ-loop
+loop-holds c =
+    let asked = c .before .before .pre in
+    (live-first _ _ (asked .3 .some-rows), parts-none (asked .0))
+
 column-requires : tie.Need-column-requires Inv-loop μ-loop
 column-requires c κs =
     let test = c .before in
@@ -28,8 +33,17 @@ column-requires c κs =
       omega (arith, loop .inv .0 .is, room),
     )
 
+loop-again : tie.Need-loop-again Inv-loop μ-loop
+loop-again c =
+    let part = c .before .before in
+    let test = part .before .before in
+    (part .column .ensures .1, parts-more (test .before .loop .inv .1) (test .loop-test .taken) (part .column .ensures .0))
+
+returns : tie.Need-returns Inv-loop μ-loop
+returns c = parts-done (c .before .loop .inv .1) (c .loop-test .left)
+
 pub columns-spec : {M : Type 1} → statement M
 columns-spec =
     tie.close
-    (tie.spec Inv-loop μ-loop (λ c. search (needs, parts-none, live-first)) column-requires (search needs) (search needs)
-    (λ c. search (needs, parts-more)) (search needs) (λ c. search (needs, parts-done)))
+    (tie.spec Inv-loop μ-loop loop-holds column-requires (search needs) (search needs) loop-again
+    (search needs) returns)

@@ -11,15 +11,35 @@ Inv-loop bytes stride k m c out₀ at to₀ j₀ i₀ out to j i = Rows k m (λ 
 abbrev μ-loop : tie.MeasureT-loop
 μ-loop bytes stride k m c out₀ at to₀ j₀ i₀ out to j i = m - i
 
+loop-holds : tie.Need-loop-holds Inv-loop μ-loop
+loop-holds c = rows-none (c .before .before .pre .0)
+
 mul-bit : tie.Need-mul-bit Inv-loop μ-loop
 mul-bit c = record { fits = row-fits _ _ (search needs) (search needs) }
+
+mark-if-requires : tie.Need-mark-if-requires Inv-loop μ-loop
+mark-if-requires c κs =
+    let read = c .before in
+    let test = read .before in
+    let space = row-space (test .before .loop .inv) (test .loop-test .taken) (read .bit .ensures .0) (read .bit .ensures .1) in
+    (space, search needs, search needs)
+
+loop-again : tie.Need-loop-again Inv-loop μ-loop
+loop-again c =
+    let marked = c .before .before in
+    let read = marked .before .before in
+    let test = read .before in
+    row-more (test .before .loop .inv) (test .loop-test .taken) (read .bit .ensures .0) (read .bit .ensures .1) (marked .mark-if .ensures)
 
 same-length : tie.Need-same-length Inv-loop μ-loop
 same-length c = c .before .loop .inv .so-far .laid .long
 
+returns : tie.Need-returns Inv-loop μ-loop
+returns c = rows-done (c .before .loop .inv) (c .loop-test .left)
+
 pub marks-spec : {M : Type 1} → statement M
 marks-spec =
     tie.close
-    (tie.spec Inv-loop μ-loop (λ c. search (needs, rows-none)) (search needs) (search needs) mul-bit (search needs) (search needs)
-    (λ c κs. search (needs, row-space)) (search needs) (search needs) (search needs) (λ c. search (needs, row-more)) same-length
-    (λ c. search (needs, rows-done)))
+    (tie.spec Inv-loop μ-loop loop-holds (search needs) (search needs) mul-bit (search needs)
+    (search needs) mark-if-requires (search needs) (search needs) (search needs) loop-again
+    same-length returns)

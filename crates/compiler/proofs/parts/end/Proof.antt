@@ -27,8 +27,12 @@ loop-again c =
     let test = register .before in
     parts-more (test .before .loop .inv) (test .loop-test .taken) (rw (register .reg-v .ensures) at (put .put2 .ensures))
 
+returns : tie.Need-returns Inv-loop μ-loop
+returns c = emitted-after (c .before .before .before .before .put .ensures) (parts-done (c .before .loop .inv) (c .loop-test .left))
+
 pub end-spec : {M : Type 1} → statement M
 end-spec =
     tie.close
-    (tie.spec Inv-loop μ-loop (search needs) loop-holds (search needs) (search needs) (search needs) put-requires-2 (search needs)
-    (search needs) loop-again (search needs) (λ c. search (needs, emitted-after, parts-done)))
+    (tie.spec Inv-loop μ-loop (search needs) loop-holds (search needs) (search needs)
+    (search needs) put-requires-2 (search needs) (search needs) loop-again (search needs)
+    returns)

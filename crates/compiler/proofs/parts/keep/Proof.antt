@@ -12,6 +12,9 @@ Inv-loop k m w h out₀ at to₀ i₀ out to i = Parts (carry k m w) h to₀ out
 abbrev μ-loop : tie.MeasureT-loop
 μ-loop k m w h out₀ at to₀ i₀ out to i = h - i
 
+loop-holds : tie.Need-loop-holds Inv-loop μ-loop
+loop-holds c = parts-none (c .before .pre .0)
+
 put-requires : tie.Need-put-requires Inv-loop μ-loop
 put-requires c κs =
     let test = c .before .before .before in
@@ -25,8 +28,11 @@ loop-again c =
     let test = x .before in
     parts-more (test .before .loop .inv) (test .loop-test .taken) (rw (x .reg-x .ensures, y .reg-y .ensures) at (put .put .ensures))
 
+returns : tie.Need-returns Inv-loop μ-loop
+returns c = parts-done (c .before .loop .inv) (c .loop-test .left)
+
 pub keep-spec : {M : Type 1} → statement M
 keep-spec =
     tie.close
-    (tie.spec Inv-loop μ-loop (λ c. search (needs, parts-none)) (search needs) (search needs) (search needs) put-requires (search needs)
-    (search needs) loop-again (search needs) (λ c. search (needs, parts-done)))
+    (tie.spec Inv-loop μ-loop loop-holds (search needs) (search needs) (search needs)
+    put-requires (search needs) (search needs) loop-again (search needs) returns)

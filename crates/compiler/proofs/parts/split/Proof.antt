@@ -18,6 +18,12 @@ loop-holds c = parts-none (search needs)
 apart-requires : tie.Need-apart-requires Inv-loop μ-loop
 apart-requires c κs = (parts-space (c .before .before .loop .inv) (c .before .loop-test .taken), search needs, search needs)
 
+loop-again : tie.Need-loop-again Inv-loop μ-loop
+loop-again c =
+    let part = c .before .before in
+    let test = part .before .before in
+    parts-more (test .before .loop .inv) (test .loop-test .taken) (part .apart .ensures)
+
 returns : tie.Need-returns Inv-loop μ-loop
 returns c =
     let second = c .before .before .before .before in
@@ -27,5 +33,5 @@ returns c =
 pub split-spec : {M : Type 1} → statement M
 split-spec =
     tie.close
-    (tie.spec Inv-loop μ-loop (search needs) (search needs) (search needs) loop-holds apart-requires (search needs) (search needs)
-    (λ c. search (needs, parts-more)) (search needs) returns)
+    (tie.spec Inv-loop μ-loop (search needs) (search needs) (search needs) loop-holds
+    apart-requires (search needs) (search needs) loop-again (search needs) returns)

@@ -9,5 +9,8 @@ live-after-requires : tie.Need-live-after-requires
 unfolding ones-in
 live-after-requires c κs = search needs
 
+returns : tie.Need-returns
+returns c = column-passed (c .before .before .before .pre .2) (c .before .count-marks .ensures) (c .live-after .ensures)
+
 pub count-column-spec : {M : Type 1} → statement M
-count-column-spec = tie.close (tie.spec (search needs) live-after-requires (λ c. search (needs, column-passed)))
+count-column-spec = tie.close (tie.spec (search needs) live-after-requires returns)

@@ -12,6 +12,9 @@ Inv-loop bytes stride m n h₀ count₀ c₀ h count c = Columns (packedRows byt
 abbrev μ-loop : tie.MeasureT-loop
 μ-loop bytes stride m n h₀ count₀ c₀ h count c = n - c
 
+loop-holds : tie.Need-loop-holds Inv-loop μ-loop
+loop-holds c = columns-none _ _ _ (c .before .pre .3 .some-rows)
+
 count-column-requires : tie.Need-count-column-requires Inv-loop μ-loop
 count-column-requires c κs =
     let loop = c .before .loop in
@@ -27,8 +30,12 @@ loop-again c =
     columns-more (search needs) (λ v l. bits v (loop .loop .c) l (test .loop-test .taken)) (test .loop-test .taken) (loop .loop .inv)
     (counted .count-column .ensures)
 
+returns : tie.Need-returns Inv-loop μ-loop
+returns c = columns-done (c .loop-test .left) (c .before .loop .inv)
+
 pub count-columns-spec : {M : Type 1} → statement M
 count-columns-spec =
     tie.close
-    (tie.spec Inv-loop μ-loop (λ c. search (needs, columns-none)) count-column-requires (search needs) (search needs) (search needs)
-    (search needs) (search needs) (search needs) (search needs) loop-again (λ c. search (needs, columns-done)))
+    (tie.spec Inv-loop μ-loop loop-holds count-column-requires (search needs) (search needs)
+    (search needs) (search needs) (search needs) (search needs) (search needs) loop-again
+    returns)

@@ -14,6 +14,9 @@ Inv-loop bytes stride m c rows₀ instructions₀ v₀ rows instructions v =
 abbrev μ-loop : tie.MeasureT-loop
 μ-loop bytes stride m c rows₀ instructions₀ v₀ rows instructions v = m - v
 
+loop-holds : tie.Need-loop-holds Inv-loop μ-loop
+loop-holds c = (search needs, marked-none _)
+
 mul-bit : tie.Need-mul-bit Inv-loop μ-loop
 mul-bit c = record { fits = row-fits _ _ (search needs) (search needs) }
 
@@ -34,8 +37,14 @@ add-instructions-2 c =
 loop-again : tie.Need-loop-again Inv-loop μ-loop
 loop-again c = (search needs, marked-more (c .bit .ensures .0) (c .bit .ensures .1) (omega arith) (c .before .before .loop .inv .1))
 
+returns : tie.Need-returns Inv-loop μ-loop
+returns c =
+    let inv = c .before .loop .inv in
+    marked-done (inv .0) (c .loop-test .left) (inv .1)
+
 pub count-marks-spec : {M : Type 1} → statement M
 count-marks-spec =
     tie.close
-    (tie.spec Inv-loop μ-loop (λ c. search (needs, marked-none)) mul-bit (search needs) (search needs) (search needs) cast-instructions
-    add-instructions mul-instructions add-instructions-2 (search needs) (search needs) loop-again (λ c. search (needs, marked-done)))
+    (tie.spec Inv-loop μ-loop loop-holds mul-bit (search needs) (search needs) (search needs)
+    cast-instructions add-instructions mul-instructions add-instructions-2 (search needs) (search needs)
+    loop-again returns)
