@@ -1,20 +1,15 @@
 // Runs of ANDs and ORs, which are most of a program: passed without decoding them (01, "The engine's no": 1, 7, 8 and 9).
 ghost use mathlib.Core.Path.{_≡_};
 ghost use mathlib.Core.Bool.{true};
-ghost use Prim.Native.Nat.{_+_, _≤_, _<_, min};
+ghost use Prim.Native.Nat.{_+_, _≤_, _<_};
 ghost use lib.ListN.{length};
 ghost use Rattle.programs.specs.Limits.{most-registers};
 ghost use Rattle.checker.specs.GateRuns.{GateRun, Passes, SoundGate};
 use crate::bytes::field_at;
 use crate::bytes::wide_at;
+use fields::lesser;
 use programs::Instruction;
 use programs::Program;
-
-fn lesser(a: usize, b: usize) -> usize
-    ensures { λ r. ⌜ r ≡ min a b ⌝ }
-{
-    if a < b { a } else { b }
-}
 
 // Whether the operands of the AND or OR at byte `at` are registers, and those that it reads written.
 fn sound_gate(

@@ -11,10 +11,10 @@ ghost use Rattle.machine.specs.Runs.{ran, resumeOf, startOf};
 ghost use Rattle.checker.specs.Standing.{Formed, Standing};
 ghost use Rattle.machine.specs.Turns.{Ends, Past, prepared};
 use crate::steps::field_at;
-use crate::steps::lesser;
 use crate::steps::run_from;
 use checker::check;
 use fields::Refusal;
+use fields::lesser;
 use programs::Checked;
 use programs::Program;
 

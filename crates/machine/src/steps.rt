@@ -1,7 +1,7 @@
 // Instructions carried out on words, straight from their bytes (01, "Files").
 ghost use mathlib.Core.Path.{_≡_};
 ghost use mathlib.Core.Bool.{true};
-ghost use Prim.Native.Nat.{_+_, _*_, _≤_, _<_, min};
+ghost use Prim.Native.Nat.{_+_, _*_, _≤_, _<_};
 ghost use lib.ListN.{drop, length};
 ghost use Rattle.fields.specs.Fields.{fieldOf};
 ghost use Rattle.checker.specs.Standing.{Formed, Four, Gate, Known, ReadyAt, Standing};
@@ -15,12 +15,6 @@ pub(crate) fn field_at(file: &[u8], at: usize) -> usize
     ensures { λ r. ⌜ (r ≡ fieldOf (now (file .entry)) at) × (r < 65536) ⌝ }
 {
     (file[at] as usize) + 256 * (file[at + 1] as usize)
-}
-
-pub(crate) fn lesser(a: usize, b: usize) -> usize
-    ensures { λ r. ⌜ r ≡ min a b ⌝ }
-{
-    if a < b { a } else { b }
 }
 
 // The AND at byte `at`.
