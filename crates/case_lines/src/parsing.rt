@@ -17,7 +17,7 @@ pub fn wide(x: u8) -> u64
 }
 
 // Where the piece that begins at `at` ends: at the next `mark`, or with the text.
-pub fn piece_end(text: &[u8], at: usize, mark: u8) -> usize
+pub(crate) fn piece_end(text: &[u8], at: usize, mark: u8) -> usize
     requires { ⌜ at ≤ length (now text) ⌝ }
     ensures { λ r. ⌜ (at ≤ r) × (r ≤ length (now (text .entry))) ⌝ }
 {
