@@ -1,13 +1,12 @@
 -- 01, "Runs, words, samples": 64 strings of bits as words. Bit j of word i is bit i of string j. Assumes nothing.
-use Prim.Native.Nat.{ℕ, _+_, _*_, _≤_, _<_}
-use mathlib.Core.Path.{_≡_, refl, sym}
+use Prim.Native.Nat.{ℕ, _*_, _≤_, _<_}
+use mathlib.Core.Path.{_≡_, sym}
 use mathlib.Core.List.{List}
-use native.Mathlib.Omega.{arith}
 use borrow.Author.Tests.{lt-ltb, le-ltb, ltb-false}
 use lib.Dec.{ltb}
 use lib.ListN.{length, take, drop}
-use Rattle.laws.specs.Words.{pack, Packed, packed-done}
-use Rattle.laws.specs.Lists.{row-end, upto}
+use Rattle.laws.specs.Words.{pack}
+use Rattle.laws.specs.Lists.{upto}
 use Rattle.laws.specs.Outcome.{Outcome, refused, gives, refuse, _>>_, passed}
 use Rattle.fields.specs.Fields.{bitOf, width}
 use Rattle.fields.specs.Limits.{outside, most-columns}
@@ -53,15 +52,6 @@ module _ (n : ℕ) (strings : List ℕ) (room : ℕ) where
   pub slice-gives : gives tt ≡ stringsOf lanes n strings → n ≤ room → sliceOf n strings room ≡ gives (upto n (wordOf strings (width n)))
   unfolding sliceOf
   slice-gives e h = rw (← e, le-ltb room n h)
-
--- ---- a word as code packs it, and where string j lies
-pub word-done : (strings : List ℕ) (w i j word : ℕ) → j ≤ lanes → lanes ≤ j → Packed (λ j. bitOf strings (j * w) i) j word →
-    word ≡ wordOf strings w i
-unfolding wordOf
-word-done strings w i j word a b p = packed-done (λ j. bitOf strings (j * w) i) j lanes word a b p
-
-pub string-in : (j w q size : ℕ) → j < lanes → q < w → lanes * w ≤ size → j * w + q < size
-string-in j w q size h l b = omega (arith, row-end {v = j} {m = lanes} {size = size} w w h refl b)
 
 -- what strings that passed say: that they are there
 pub strings-there : (n : ℕ) (strings : List ℕ) (room : ℕ) → gives tt ≡ stringsOf lanes n strings → n ≤ room →

@@ -5,6 +5,7 @@
 // outcome lays at its front.
 mod sampling;
 mod slicing;
+mod transposing;
 
 pub use sampling::MISS;
 pub use sampling::SIGNED_MISS;

@@ -1,21 +1,26 @@
 // Samples: output words to numbers, lane by lane (01, "Runs, words, samples").
 ghost use mathlib.Core.Path.{_≡_};
-ghost use Prim.Native.Nat.{_≤_, _<_};
-ghost use lib.ListN.{length};
+ghost use Prim.Native.Nat.{_%_, _^_, _≤_, _<_};
+ghost use lib.ListN.{length, getD};
 ghost use Rattle.laws.specs.Lay.{lay};
 ghost use Rattle.laws.specs.Outcome.{laid, mapped};
 ghost use Rattle.laws.specs.Words.{bitAt};
 ghost use Rattle.programs.specs.Limits.{most-outputs};
-ghost use Rattle.lanes.specs.Slicing.{lanes};
-ghost use Rattle.lanes.specs.Samples.{code, laneHits, negatedIf, sampled, sampleOf, samplesOf, signedCode, signedSamplesOf, spelled};
+ghost use Rattle.lanes.specs.Transposing.{Table};
+ghost use Rattle.lanes.specs.Samples.{Read, Spread, negatedIf, sampled, samplesOf, signedSamplesOf};
 use crate::slicing::LANES;
+use crate::transposing::SIDE;
+use crate::transposing::transpose;
 use fields::Refusal;
 use programs::Program;
 
-// What stands for a miss among samples, and among signed samples.
+// What stands for a miss among samples, and among signed samples: all ones, so that each is the mask of its numbers too.
 pub const MISS: u8 = 255;
 
 pub const SIGNED_MISS: i16 = 32767;
+
+// The row of the signs, above those of a number.
+const SIGN: usize = 15;
 
 // A refusal, or that the samples of all lanes are laid down.
 pub enum Sampled {
@@ -23,67 +28,70 @@ pub enum Sampled {
     All,
 }
 
-// Bit j of a word.
-fn lane(word: u64, j: usize) -> u8
-    requires { ⌜ j < lanes ⌝ }
-    ensures { λ r. ⌜ (r ≡ bitAt word j) × (r < 2) ⌝ }
+// Output t, or 0 where there is none.
+fn output(outputs: &[u64], t: usize) -> u64
+    ensures { λ r. ⌜ r ≡ getD (now (outputs .entry)) t 0 ⌝ }
 {
-    ((word >> j) & 1) as u8
+    if t < outputs.len() { outputs[t] } else { 0 }
 }
 
-// Whether lane j hits: its bit of output 0.
-fn hit(outputs: &[u64], j: usize) -> bool
-    requires { ⌜ (j < lanes) × (1 ≤ length (now outputs)) ⌝ }
-    ensures { λ r. ⌜ r ≡ laneHits (now (outputs .entry)) j ⌝ }
+// Sets rows 0 to 15. Row t below 15 is output t + 1, with the lanes set that miss; row 15 is the sign word, with these lanes clear.
+fn spread(outputs: &[u64], sign: u64, rows: &mut [u64; SIDE])
+    requires { ⌜ Table (now rows) ⌝ }
+    ensures { λ _. ⌜ Spread (now (outputs .entry)) sign (now (rows .exit)) ⌝ }
 {
-    lane(outputs[0], j) == 1
-}
-
-// The number that lane j's bits of outputs 1 and up spell, lowest first.
-fn number(outputs: &[u64], j: usize) -> u8
-    requires { ⌜ (j < lanes) × (1 ≤ length (now outputs)) × (length (now outputs) ≤ most-outputs) ⌝ }
-    ensures { λ r. ⌜ r ≡ spelled (now (outputs .entry)) j ⌝ }
-{
-    let mut number: u8 = 0;
-    for t in 1..outputs.len() {
-        number |= lane(outputs[t], j) << (t - 1);
+    let hits = output(outputs, 0);
+    for t in 0..SIGN {
+        rows[t] = output(outputs, t + 1) | !hits;
     }
-    number
+    rows[SIGN] = sign & hits;
 }
 
-// Lane j's sample.
-fn sample(outputs: &[u64], j: usize) -> u8
-    requires { ⌜ (j < lanes) × (1 ≤ length (now outputs)) × (length (now outputs) ≤ most-outputs) ⌝ }
-    ensures { λ r. ⌜ r ≡ code (sampleOf (now (outputs .entry)) j) ⌝ }
+// Row j becomes what lane j holds: in 15 bits its number, or all ones for a miss, and above them its sign.
+fn read(outputs: &[u64], sign: u64, rows: &mut [u64; SIDE])
+    requires { ⌜ (length (now outputs) ≤ most-outputs) × Table (now rows) ⌝ }
+    ensures { λ _. ⌜ Read (now (outputs .entry)) sign (now (rows .exit)) ⌝ }
 {
-    if hit(outputs, j) {
-        number(outputs, j)
-    } else {
-        MISS
-    }
+    spread(outputs, sign, rows);
+    transpose(rows);
 }
 
-// A number, negated if the bit is set; zero stays zero.
-fn negated_if(bit: u8, number: u8) -> i16
+// The sample in a lane's row.
+fn sample(row: u64) -> u8
+    ensures { λ r. ⌜ r ≡ row % 2 ^ 8 ⌝ }
+{
+    (row & (MISS as u64)) as u8
+}
+
+// The number in a lane's row, before its sign.
+fn distance(row: u64) -> u16
+    ensures { λ r. ⌜ (r ≡ row % 2 ^ 15) × (r < 2 ^ 15) ⌝ }
+{
+    (row & (SIGNED_MISS as u64)) as u16
+}
+
+// The sign in a lane's row.
+fn negates(row: u64) -> u16
+    ensures { λ r. ⌜ (r ≡ bitAt row 15) × (r < 2) ⌝ }
+{
+    ((row >> SIGN) & 1) as u16
+}
+
+// A number, negated if the bit is set: of its two parts one is 0, so that no choice is made. Zero stays zero.
+fn negated_if(bit: u16, number: u16) -> i16
+    requires { ⌜ (bit < 2) × (number < 2 ^ 15) ⌝ }
     ensures { λ r. ⌜ r ≡ negatedIf bit number ⌝ }
 {
-    if bit == 1 {
-        -(number as i16)
-    } else {
-        number as i16
-    }
+    let kept = number * (1 - bit);
+    let negated = number * bit;
+    kept as i16 + -(negated as i16)
 }
 
-// Lane j's sample, negated if bit j of the sign word is set; a miss is not.
-fn signed_sample(outputs: &[u64], sign: u64, j: usize) -> i16
-    requires { ⌜ (j < lanes) × (1 ≤ length (now outputs)) × (length (now outputs) ≤ most-outputs) ⌝ }
-    ensures { λ r. ⌜ r ≡ signedCode (bitAt sign j) (sampleOf (now (outputs .entry)) j) ⌝ }
+// The signed sample in a lane's row. A miss has no sign.
+fn signed_sample(row: u64) -> i16
+    ensures { λ r. ⌜ r ≡ negatedIf (bitAt row 15) (row % 2 ^ 15) ⌝ }
 {
-    if hit(outputs, j) {
-        negated_if(lane(sign, j), number(outputs, j))
-    } else {
-        SIGNED_MISS
-    }
+    negated_if(negates(row), distance(row))
 }
 
 // Reads the samples of all lanes from output words and lays them at the front of `samples`; or refusal 3 for the number of output words,
@@ -103,8 +111,10 @@ pub fn samples(outputs: &[u64], samples: &mut [u8]) -> Sampled
     if samples.len() < LANES {
         return Sampled::Refused(Refusal::Buffer);
     }
+    let mut rows = [0u64; SIDE];
+    read(outputs, 0, &mut rows);
     for j in 0..LANES {
-        samples[j] = sample(outputs, j);
+        samples[j] = sample(rows[j]);
     }
     Sampled::All
 }
@@ -126,8 +136,10 @@ pub fn signed_samples(outputs: &[u64], sign: u64, samples: &mut [i16]) -> Sample
     if samples.len() < LANES {
         return Sampled::Refused(Refusal::Buffer);
     }
+    let mut rows = [0u64; SIDE];
+    read(outputs, sign, &mut rows);
     for j in 0..LANES {
-        samples[j] = signed_sample(outputs, sign, j);
+        samples[j] = signed_sample(rows[j]);
     }
     Sampled::All
 }

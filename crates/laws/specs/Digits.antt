@@ -6,7 +6,7 @@ use native.Mathlib.Nat.{add-zero, eq-or-lt-of-le, mod-eq-of-lt, mul-le-mul-right
 use native.Mathlib.Numerals.{add-one}
 use native.Mathlib.Omega.{arith}
 use lib.Bits.{bitAnd, and-mask}
-use lib.Pow.{high, low, mod-pow-add, pow-mono}
+use lib.Pow.{high, low, mod-pow-add, pow-add, pow-mono}
 use Rattle.laws.specs.Tests.{reached}
 
 -- the number whose k digits are f c, f (c + 1), ..
@@ -33,6 +33,17 @@ number-snoc f c (suc k) =
 -- one more digit at the end, in the words of a loop that reads on
 pub number-more : (f : ℕ → ℕ) (c k : ℕ) → number f c (k + 1) ≡ 2 * number f c k + f (c + k)
 number-more f c k = rw (add-one k) (number-snoc f c k)
+
+-- k digits, then j more
+pub number-split : (f : ℕ → ℕ) (c k j : ℕ) → number f c (k + j) ≡ number f c k * 2 ^ j + number f (c + k) j
+unfolding number
+number-split f c zero j =
+    let none : 0 + j ≡ j = omega arith in
+    rw (none, add-zero c) (omega arith)
+number-split f c (suc k) j =
+    let more : suc k + j ≡ suc (k + j) = omega arith in
+    let on : suc c + k ≡ c + suc k = omega arith in
+    rw (more, pow-add 2 k j) (omega (arith, rw on at (number-split f (suc c) k j)))
 
 -- the digits may be counted from elsewhere
 pub number-shift : (f g : ℕ → ℕ) (c d k : ℕ) → ((i : ℕ) → i < k → f (c + i) ≡ g (d + i)) → number f c k ≡ number g d k

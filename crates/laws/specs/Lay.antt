@@ -1,14 +1,15 @@
 -- Results laid into lent buffers: beyond its own extent a result changes nothing. Assumes nothing.
 use Prim.Native.Nat.{ℕ, _+_, _*_, _≤_, _<_}
 use mathlib.Core.Path.{_≡_, refl, sym, ap, _∙_}
-use mathlib.Core.List.{List, [], _∷_, _++_, append-assoc}
+use mathlib.Core.List.{List, [], _∷_, _++_, append-assoc, append-nil}
 use native.Mathlib.Nat.{add-assoc, add-zero, zero-add}
 use native.Mathlib.Numerals.{add-one}
 use native.Mathlib.Omega.{arith}
-use lib.ListN.{length, getD, set, take, drop, length-append, length-take, length-drop, take-append-drop, List·getD-append}
+use lib.ListN.{length, getD, set, take, drop, length-append, length-take, length-drop, take-append-drop, drop-of-length-le}
+use lib.ListN.{List·getD-append}
 use lib.Seq.{length-take-le, take-at, take-append-seam, drop-at, drop-append-add, drop-append-seam, drop-drop, set-split}
 use Rattle.laws.specs.Tests.{reached}
-use Rattle.laws.specs.Lists.{blocks, upto, blocks-more, length-blocks, upto-more, length-upto}
+use Rattle.laws.specs.Lists.{blocks, upto, blocks-more, length-blocks, upto-more, upto-split, length-upto}
 
 module _ {A : Type 0} where
   -- xs in place of what stands in buf from place k on
@@ -45,6 +46,11 @@ module _ {A : Type 0} where
   pub lay-nothing : (buf : List A) → buf ≡ lay [] buf
   unfolding lay
   lay-nothing buf = refl
+
+  -- a result as long as the buffer is all that it then holds
+  pub lay-whole : (xs buf : List A) → length buf ≤ length xs → lay xs buf ≡ xs
+  unfolding lay
+  lay-whole xs buf h = rw (drop-of-length-le buf {i = length xs} h) (append-nil xs)
 
   pub lay-is : (xs buf : List A) → layAt 0 xs buf ≡ lay xs buf
   unfolding lay layAt
@@ -111,6 +117,14 @@ module _ {A : Type 0} (k : ℕ) where
   laid-block w at n f buf now now′ wide e h q l =
       rw (blocks-more n f)
       (laid-after at (blocks n f) (f n) buf now now′ (omega (arith, length-blocks w f wide n)) (omega (arith, wide n)) q l)
+
+  -- a callee laid m elements behind the n before them
+  pub laid-more : (at n m : ℕ) (f : ℕ → A) (buf now now′ : List A) → at ≡ k + n → at + m ≤ length buf →
+      now′ ≡ layAt at (upto m (λ i. f (n + i))) now → Laid k (upto n f) buf now → Laid k (upto (n + m) f) buf now′
+  laid-more at n m f buf now now′ e h q l =
+      rw (upto-split n m f)
+      (laid-after at (upto n f) (upto m (λ i. f (n + i))) buf now now′ (omega (arith, length-upto n f))
+      (omega (arith, length-upto m (λ i. f (n + i)))) q l)
 
   -- a store behind the elements before it
   pub laid-store : (at n : ℕ) (f : ℕ → A) (x : A) (buf now : List A) → at ≡ k + n → at < length buf → x ≡ f n →

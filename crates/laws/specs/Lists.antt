@@ -1,7 +1,7 @@
 -- Lists by their elements and by their blocks, and facts of every element. Assumes nothing.
 use Prim.Native.Nat.{ℕ, zero, suc, _+_, _-_, _*_, _/_, _%_, _≤_, _<_}
 use mathlib.Core.Path.{_≡_, refl, sym, ap, _∙_, subst}
-use mathlib.Core.List.{List, [], _∷_, _++_, map}
+use mathlib.Core.List.{List, [], _∷_, _++_, append-assoc, append-nil, map}
 use mathlib.Core.Logic.{⊎-elim}
 use native.Mathlib.Nat.{add-zero, mul-one, eq-or-lt-of-le, le-of-suc-le-suc, mul-le-mul-right, eq-zero-or-pos, div-lt-iff-lt-mul}
 use native.Mathlib.Nat.{div-add-mod', mod-lt}
@@ -97,6 +97,15 @@ module _ {A : Type 0} where
   pub upto-eq : (n : ℕ) (f g : ℕ → A) → ((i : ℕ) → i < n → f i ≡ g i) → upto n f ≡ upto n g
   unfolding upto
   upto-eq n f g e = blocks-eq n (λ i. f i ∷ []) (λ i. g i ∷ []) (λ i l. ap (λ (x : A). x ∷ []) (e i l))
+
+  -- the first k, then n more
+  pub upto-split : (k n : ℕ) (f : ℕ → A) → upto (k + n) f ≡ upto k f ++ upto n (λ i. f (k + i))
+  unfolding upto blocks
+  upto-split k zero f = rw (add-zero k) (sym (append-nil (upto k f)))
+  upto-split k (suc n) f =
+      let more : k + suc n ≡ suc (k + n) = omega arith in
+      let last : List A = f (k + n) ∷ [] in
+      rw more (ap (λ (l : List A). l ++ last) (upto-split k n f) ∙ append-assoc (upto k f) (upto n (λ i. f (k + i))) last)
 
   -- ---- from any place on
   from-snoc : (f : ℕ → A) (c k : ℕ) → from f c (suc k) ≡ from f c k ++ (f (c + k) ∷ [])

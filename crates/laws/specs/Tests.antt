@@ -1,5 +1,5 @@
 -- Tests: what passing all of some, or none of them, says; numbers and lists of numbers compared. Assumes nothing.
-use Prim.Native.Nat.{ℕ, _≤_, _<_}
+use Prim.Native.Nat.{ℕ, zero, suc, _≤_, _<_}
 use mathlib.Core.Path.{_≡_, refl, sym, subst}
 use mathlib.Core.Bool.{Bool, true, false, _&&_, _||_}
 use mathlib.Core.List.{List, [], _∷_}
@@ -27,6 +27,12 @@ lt-or-ge i n = go (ltb i n) refl
     go : (b : Bool) → ltb i n ≡ b → (i < n) ⊎ (n ≤ i)
     go true e = inl (ltb-true i n e)
     go false e = inr (ltb-false i n e)
+
+-- a bit
+pub zero-or-one : (x : ℕ) → x < 2 → (x ≡ 0) ⊎ (x ≡ 1)
+zero-or-one zero h = inl refl
+zero-or-one (suc zero) h = inr refl
+zero-or-one (suc (suc x)) h = absurd (omega arith)
 
 -- the end of a loop that counts up to n
 pub reached : (P : ℕ → Type 0) (i n : ℕ) → i ≤ n → n ≤ i → P i → P n

@@ -1,13 +1,11 @@
 -- Words by their bits, bit 0 the lowest: a lane of words is one bit of each (01, "Runs, words, samples"). Assumes nothing.
 use Prim.Native.Nat.{ℕ, zero, suc, _+_, _-_, _*_, _/_, _%_, _^_, min, max, _≤_, _<_}
-use mathlib.Core.Path.{_≡_, refl, sym, ap, _∙_, subst}
+use mathlib.Core.Path.{_≡_, refl, sym, ap, _∙_}
 use mathlib.Core.Logic.{⊎-elim}
-use native.Mathlib.Nat.{zero-div, pow-succ', eq-or-lt-of-le, le-of-suc-le-suc, le-dest, mod-eq-of-lt}
-use native.Mathlib.Numerals.{add-one}
+use native.Mathlib.Nat.{add-zero, zero-add, zero-div, pow-succ', eq-or-lt-of-le, le-of-suc-le-suc, le-dest, mod-eq-of-lt}
 use native.Mathlib.Omega.{arith}
-use lib.Bits.{bitAnd, bitOr, and-mask, and-shr, and-step, or-shr, or-step, or-shifted-r}
-use lib.Pow.{shl-exact, shr-shr, high, low, field, mod-mod-pow, mod-pow-add}
-use Rattle.laws.specs.Tests.{reached}
+use lib.Bits.{bitAnd, bitOr, bitXor, differ, and-le-r, and-mask, and-shr, and-step, or-shr, or-step, xor-shr, xor-step}
+use lib.Pow.{pow-pos, shl-shr, shr-shr, high, low, field, mod-mod-pow, mod-pow-add}
 use Rattle.laws.specs.Digits.{digit-lt}
 
 -- bit j of x
@@ -33,14 +31,22 @@ pub bitAt-read : (x j : ℕ) → bitAnd (x / 2 ^ j) 1 ≡ bitAt x j
 unfolding bitAt
 bitAt-read x j = and-mask (x / 2 ^ j) 1
 
--- a bit below place k does not see what stands from there on
-bit-low : (hi a j lo : ℕ) → lo < 2 ^ ((a + 1) + j) → bitAt (hi * 2 ^ ((a + 1) + j) + lo) j ≡ bitAt lo j
+-- what a mask leaves is below whatever the mask is below
+pub masked-lt : (x m n : ℕ) → m < n → bitAnd x m < n
+masked-lt x m n h = omega (arith, and-le-r x m)
+
+-- a bit below place w does not see what stands from there on
+pub bitAt-mod : (x w j : ℕ) → j < w → bitAt (x % 2 ^ w) j ≡ bitAt x j
 unfolding bitAt
-bit-low hi a j lo h =
-    let N : ℕ = hi * 2 ^ ((a + 1) + j) + lo in
-    let low-is : N % 2 ^ ((a + 1) + j) ≡ lo = low hi ((a + 1) + j) h in
-    let part : lo / 2 ^ j ≡ N / 2 ^ j % 2 ^ (a + 1) = ap (λ (x : ℕ). x / 2 ^ j) (sym low-is) ∙ field N (a + 1) j in
-    sym (ap (λ (x : ℕ). x % 2) part ∙ mod-mod-pow (N / 2 ^ j) a 1)
+bitAt-mod x w j h = at (le-dest h)
+  where
+    at : ((a : ℕ) × (suc j + a ≡ w)) → x % 2 ^ w / 2 ^ j % 2 ≡ x / 2 ^ j % 2
+    at (a, e) =
+        let is : w ≡ (a + 1) + j = omega arith in
+        rw is (ap (λ (y : ℕ). y % 2) (field x (a + 1) j) ∙ mod-mod-pow (x / 2 ^ j) a 1)
+
+bit-low : (hi k lo j : ℕ) → lo < 2 ^ k → j < k → bitAt (hi * 2 ^ k + lo) j ≡ bitAt lo j
+bit-low hi k lo j h l = sym (bitAt-mod (hi * 2 ^ k + lo) k j l) ∙ ap (λ (x : ℕ). bitAt x j) (low hi k h)
 
 bit-top : (b k lo : ℕ) → b < 2 → lo < 2 ^ k → bitAt (b * 2 ^ k + lo) k ≡ b
 unfolding bitAt
@@ -71,14 +77,8 @@ bitAt-pack (suc k) f j ok h =
     let ok′ : (j : ℕ) → j < k → f j < 2 = λ j l. ok j (omega arith) in
     ⊎-elim
     (λ (q : j ≡ k). rw q (bit-top (f k) k (pack k f) (ok k (omega arith)) (pack-lt k f ok′)))
-    (λ (q : j < k). below (pack-lt k f ok′) (le-dest q) ∙ bitAt-pack k f j ok′ q)
+    (λ (q : j < k). bit-low (f k) k (pack k f) j (pack-lt k f ok′) q ∙ bitAt-pack k f j ok′ q)
     (eq-or-lt-of-le (le-of-suc-le-suc h))
-  where
-    below : pack k f < 2 ^ k → ((a : ℕ) × (suc j + a ≡ k)) → bitAt (f k * 2 ^ k + pack k f) j ≡ bitAt (pack k f) j
-    below l (a, e) =
-        let is : k ≡ (a + 1) + j = omega arith in
-        subst (λ (z : ℕ). bitAt (f k * 2 ^ z + pack k f) j ≡ bitAt (pack k f) j) (sym is)
-        (bit-low (f k) a j (pack k f) (subst (λ (z : ℕ). pack k f < 2 ^ z) is l))
 
 -- a number is packed of its own bits
 low-bits : (k x : ℕ) → pack k (bitAt x) ≡ x % 2 ^ k
@@ -91,31 +91,24 @@ low-bits (suc k) x =
 pub pack-bits : (k x : ℕ) → x < 2 ^ k → pack k (bitAt x) ≡ x
 pack-bits k x h = low-bits k x ∙ mod-eq-of-lt h
 
--- ---- code that packs, lowest bit first: word is packed of the first k bits
-pub record Packed (f : ℕ → ℕ) (k word : ℕ) : Type 0 where
-  pub is : word ≡ pack k f
-  pub small : word < 2 ^ k
+-- what is packed, cut to its first k bits
+pub pack-mod : (n k : ℕ) (f : ℕ → ℕ) → ((j : ℕ) → j < n → f j < 2) → k ≤ n → pack n f % 2 ^ k ≡ pack k f
+pack-mod n k f ok h = sym (low-bits k (pack n f)) ∙ pack-eq k (bitAt (pack n f)) f (λ j l. bitAt-pack n f j ok (omega arith))
 
-module _ (f : ℕ → ℕ) where
-  pub packed-none : Packed f 0 0
-  unfolding pack
-  packed-none = record { is = refl; small = omega arith }
+-- bits that are all 0 from place n on add nothing, and bits that are all 1 are the largest number
+pub pack-short : (n a : ℕ) (f : ℕ → ℕ) → ((j : ℕ) → n ≤ j → f j ≡ 0) → pack (a + n) f ≡ pack n f
+unfolding pack
+pack-short n zero f e = ap (λ (m : ℕ). pack m f) (zero-add n)
+pack-short n (suc a) f e =
+    let o : suc a + n ≡ suc (a + n) = omega arith in
+    rw (o, e (a + n) (omega arith)) (omega (arith, pack-short n a f e))
 
-  -- one turn, `word |= b << k` at a width of w bits
-  pub packed-more : (w k b word : ℕ) → k < w → b ≡ f k → b < 2 → Packed f k word → Packed f (k + 1) (bitOr word ((b * 2 ^ k) % 2 ^ w))
-  unfolding pack
-  packed-more w k b word h e l p =
-      let turn : bitOr word ((b * 2 ^ k) % 2 ^ w) ≡ b * 2 ^ k + word =
-      rw (shl-exact {a = b} 1 k w l (omega arith)) (or-shifted-r b k word (p .small)) in
-      record {
-        is = rw (turn, add-one k, e, p .is);
-        small = rw (turn, add-one k, pow-succ' 2 k) (digit-lt b (2 ^ k) word (omega arith) (p .small));
-      }
+pub pack-ones : (k : ℕ) → pack k (λ j. 1) ≡ 2 ^ k - 1
+unfolding pack
+pack-ones zero = refl
+pack-ones (suc k) = omega (arith, pack-ones k, pow-succ' 2 k, pow-pos k)
 
-  pub packed-done : (k n word : ℕ) → k ≤ n → n ≤ k → Packed f k word → word ≡ pack n f
-  packed-done k n word a b p = reached (λ m. word ≡ pack m f) k n a b (p .is)
-
--- ---- AND, OR and NOT, lane by lane
+-- ---- AND, OR, exclusive or and NOT, lane by lane
 pub bitAt-and : (x y j : ℕ) → bitAt (bitAnd x y) j ≡ min (bitAt x j) (bitAt y j)
 unfolding bitAt
 bitAt-and x y j = rw (and-shr x y j) (omega (arith, and-step (x / 2 ^ j) (y / 2 ^ j)))
@@ -123,6 +116,16 @@ bitAt-and x y j = rw (and-shr x y j) (omega (arith, and-step (x / 2 ^ j) (y / 2 
 pub bitAt-or : (x y j : ℕ) → bitAt (bitOr x y) j ≡ max (bitAt x j) (bitAt y j)
 unfolding bitAt
 bitAt-or x y j = rw (or-shr x y j) (omega (arith, or-step (x / 2 ^ j) (y / 2 ^ j)))
+
+differ-is : (x y : ℕ) → differ x y ≡ (x - y) + (y - x)
+differ-is zero y = omega arith
+differ-is (suc x) zero = omega arith
+differ-is (suc x) (suc y) = omega (arith, differ-is x y)
+
+pub bitAt-xor : (x y j : ℕ) → bitAt (bitXor x y) j ≡ (bitAt x j - bitAt y j) + (bitAt y j - bitAt x j)
+unfolding bitAt
+bitAt-xor x y j =
+    rw (xor-shr x y j) (omega (arith, xor-step (x / 2 ^ j) (y / 2 ^ j), differ-is (x / 2 ^ j % 2) (y / 2 ^ j % 2)))
 
 bit-suc : (x j : ℕ) → bitAt x (suc j) ≡ bitAt (x / 2) j
 unfolding bitAt
@@ -140,3 +143,22 @@ bitAt-not (suc w) x zero h l = bit-lowest w x h
 bitAt-not (suc w) x (suc j) h l =
     let half : ((2 ^ suc w - 1) - x) / 2 ≡ (2 ^ w - 1) - x / 2 = omega (arith, pow-succ' 2 w) in
     rw (bit-suc ((2 ^ suc w - 1) - x) j, bit-suc x j, half) (bitAt-not w (x / 2) j (omega (arith, pow-succ' 2 w)) (omega arith))
+
+-- ---- shifts at a width of w bits
+pub bitAt-shr : (x k j : ℕ) → bitAt (x / 2 ^ k) j ≡ bitAt x (k + j)
+unfolding bitAt
+bitAt-shr x k j = rw (shr-shr x k j)
+
+module _ (x k w j : ℕ) (h : j < w) where
+  -- below place k a shift by k leaves 0, from there on the bits of x
+  pub bitAt-shl-below : j < k → bitAt ((x * 2 ^ k) % 2 ^ w) j ≡ 0
+  bitAt-shl-below l =
+      bitAt-mod (x * 2 ^ k) w j h ∙
+      (ap (λ (y : ℕ). bitAt y j) (sym (add-zero (x * 2 ^ k))) ∙ (bit-low x k 0 j (pow-pos k) l ∙ bitAt-zero j))
+
+  pub bitAt-shl : k ≤ j → bitAt ((x * 2 ^ k) % 2 ^ w) j ≡ bitAt x (j - k)
+  bitAt-shl l =
+      let is : j ≡ k + (j - k) = omega arith in
+      bitAt-mod (x * 2 ^ k) w j h ∙
+      (ap (bitAt (x * 2 ^ k)) is ∙
+      (sym (bitAt-shr (x * 2 ^ k) k (j - k)) ∙ ap (λ (y : ℕ). bitAt y (j - k)) (shl-shr x k)))
