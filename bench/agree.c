@@ -31,14 +31,20 @@ static bool programs_agree(const struct batch *b) {
     return true;
 }
 
-static bool draw_agrees(const struct batch *b) {
-    uint8_t read[CORKHOLLOW_LANES];
-    contenders[SAMPLES].run(b);
-    memcpy(read, samples, sizeof read);
-    contenders[DRAW].run(b);
-    if (!memcmp(read, samples, sizeof read)) return true;
-    printf("%s gives other samples than slice, start and samples\n", contenders[DRAW].name);
+/* A draw against slice, start and the reading of what they give, which leaves `size` bytes at the same place. */
+static bool draw_agrees(enum which draw, enum which reading, const void *left, size_t size, const struct batch *b) {
+    uint8_t read[sizeof signed_samples];
+    contenders[reading].run(b);
+    memcpy(read, left, size);
+    contenders[draw].run(b);
+    if (!memcmp(read, left, size)) return true;
+    printf("%s gives other samples than slice, start and %s\n", contenders[draw].name, contenders[reading].name);
     return false;
+}
+
+static bool draws_agree(const struct batch *b) {
+    return draw_agrees(DRAW, SAMPLES, samples, sizeof samples, b) &&
+           draw_agrees(DRAW_SIGNED, SIGNED, signed_samples, sizeof signed_samples, b);
 }
 
 /* The sample of u, by taking row after row off it: every value v has p_v of the numbers. */
@@ -81,7 +87,7 @@ bool all_agree(void) {
     for (int i = 0; i < TRIALS; i++) {
         if (i == 0) missing_batch(&b);
         else random_batch(&b);
-        if (!programs_agree(&b) || !draw_agrees(&b) || !scan_agrees(CDT, &b) || !scan_agrees(CDT_BEST, &b)) return false;
+        if (!programs_agree(&b) || !draws_agree(&b) || !scan_agrees(CDT, &b) || !scan_agrees(CDT_BEST, &b)) return false;
     }
     return true;
 }

@@ -31,10 +31,12 @@ static void complete(struct batch *b) {
 /* All ones is above every sum and beyond every leaf: a miss in all lanes, which random words would not show in a lifetime. */
 void missing_batch(struct batch *b) {
     for (size_t i = 0; i < sizeof b->strings; i++) b->strings[i] = 0xff;
+    b->sign = UINT64_MAX;
     complete(b);
 }
 
 void random_batch(struct batch *b) {
     for (size_t i = 0; i < sizeof b->strings; i++) b->strings[i] = random_word() >> 56;
+    b->sign = random_word();
     complete(b);
 }

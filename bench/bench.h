@@ -3,6 +3,7 @@
 #define BENCH_H
 
 #include "corkhollow.h"
+#include "steps.h"
 
 enum { ROWS = 87, COLUMNS = 128, WIDTH = COLUMNS / 8, INSTRUCTIONS = 23411 };
 
@@ -12,9 +13,8 @@ struct batch {
     uint64_t words[COLUMNS];               /* the strings sliced */
     uint64_t outputs[CORKHOLLOW_OUTPUTS];  /* what the program gives for the words */
     uint64_t numbers[CORKHOLLOW_LANES][2]; /* the strings as 128-bit numbers, the high half first */
+    uint64_t sign;                         /* of the signed samples */
 };
-
-typedef void run(const struct batch *);
 
 struct contender {
     const char *name;
@@ -25,7 +25,7 @@ struct contender {
 
 /* contenders.c */
 enum which {
-    START, START_NONE, CHECK, SLICE, SAMPLES, DRAW, COMPILE,
+    START, START_NONE, CHECK, SLICE, SAMPLES, SIGNED, DRAW, DRAW_SIGNED, COMPILE,
     SWITCH, STRAIGHT, CDT, SWITCH_BEST, STRAIGHT_BEST, CDT_BEST, CONTENDERS
 };
 extern const struct contender contenders[CONTENDERS];
@@ -33,6 +33,7 @@ extern uint8_t matrix[CORKHOLLOW_MOST_MATRIX_BYTES], program[CORKHOLLOW_MOST_PRO
 extern size_t matrix_length, program_length;
 extern uint64_t outputs[CORKHOLLOW_OUTPUTS];
 extern uint8_t samples[CORKHOLLOW_LANES];
+extern int16_t signed_samples[CORKHOLLOW_LANES];
 extern uint32_t refused; /* not 0 after any refusal */
 
 /* batches.c */
@@ -48,7 +49,7 @@ struct measure {
     long steps, steps_missing;  /* on random words, and where all lanes miss; -1 where they could not be counted */
 };
 
-/* timing.c, steps.c, report.c */
+/* timing.c, counting.c, report.c */
 void time_all(struct measure *);
 void count_all(struct measure *);
 void report(const struct measure *);

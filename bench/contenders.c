@@ -5,6 +5,7 @@ uint8_t matrix[CORKHOLLOW_MOST_MATRIX_BYTES], program[CORKHOLLOW_MOST_PROGRAM_BY
 size_t matrix_length, program_length;
 uint64_t outputs[CORKHOLLOW_OUTPUTS];
 uint8_t samples[CORKHOLLOW_LANES];
+int16_t signed_samples[CORKHOLLOW_LANES];
 uint32_t refused;
 
 static uint64_t registers[CORKHOLLOW_REGISTERS], sliced[COLUMNS];
@@ -30,8 +31,16 @@ static void check(const struct batch *b) {
 static void slice(const struct batch *b) { refused |= corkhollow_slice(COLUMNS, b->strings, sizeof b->strings, sliced, COLUMNS); }
 static void read_samples(const struct batch *b) { refused |= corkhollow_samples(b->outputs, CORKHOLLOW_OUTPUTS, samples, sizeof samples); }
 
+static void read_signed(const struct batch *b) {
+    refused |= corkhollow_signed_samples(b->outputs, CORKHOLLOW_OUTPUTS, b->sign, signed_samples, CORKHOLLOW_LANES);
+}
+
 static void draw(const struct batch *b) {
     refused |= corkhollow_draw(program, program_length, b->strings, sizeof b->strings, samples, sizeof samples);
+}
+
+static void draw_signed(const struct batch *b) {
+    refused |= corkhollow_draw_signed(program, program_length, b->strings, sizeof b->strings, b->sign, signed_samples, CORKHOLLOW_LANES);
 }
 
 static void compile(const struct batch *b) {
@@ -53,7 +62,9 @@ const struct contender contenders[CONTENDERS] = {
     [CHECK] = {"engine: check", check, false, true},
     [SLICE] = {"engine: slice", slice, true, false},
     [SAMPLES] = {"engine: samples", read_samples, true, false},
+    [SIGNED] = {"engine: signed samples", read_signed, true, false},
     [DRAW] = {"engine: draw (slice, start, samples)", draw, true, false},
+    [DRAW_SIGNED] = {"engine: draw signed", draw_signed, true, false},
     [COMPILE] = {"engine: compile", compile, false, true},
     [SWITCH] = {"(a) C interpreter, -O2", by_switch, true, true},
     [STRAIGHT] = {"(b) straight-line C, -O2", straight, true, true},

@@ -1,7 +1,9 @@
 /* Counts the machine instructions of a run, by letting a child carry it out one at a time. */
-#include "bench.h"
+#include "steps.h"
 
 #include <signal.h>
+#include <stdbool.h>
+#include <stddef.h>
 #include <sys/ptrace.h>
 #include <sys/wait.h>
 #include <unistd.h>
@@ -35,18 +37,7 @@ static long between_stops(run *f, const struct batch *b) {
 }
 
 /* The stops have steps of their own, which an empty run has too. */
-static long steps(run *f, const struct batch *b) {
+long steps(run *f, const struct batch *b) {
     long all = between_stops(f, b), own = between_stops(nothing, b);
     return all < 0 || own < 0 ? -1 : all - own;
-}
-
-/* What draws is counted on two batches as unlike as can be: where the counts differ, its work depends on the words. */
-void count_all(struct measure *measures) {
-    static struct batch random, missing;
-    random_batch(&random);
-    missing_batch(&missing);
-    for (int i = 0; i < CONTENDERS; i++) {
-        measures[i].steps = steps(contenders[i].run, &random);
-        measures[i].steps_missing = contenders[i].draws ? steps(contenders[i].run, &missing) : measures[i].steps;
-    }
 }

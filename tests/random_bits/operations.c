@@ -1,0 +1,112 @@
+#include "operations.h"
+
+#include <string.h>
+
+static uint8_t matrix[CORKHOLLOW_MOST_MATRIX_BYTES], program[CORKHOLLOW_MOST_PROGRAM_BYTES];
+static size_t matrix_length, program_length, n_columns, n_registers, n_inputs, n_outputs;
+static uint64_t sliced[CORKHOLLOW_COLUMNS], registers[CORKHOLLOW_REGISTERS], outputs[CORKHOLLOW_OUTPUTS];
+static uint8_t samples[CORKHOLLOW_LANES];
+static int16_t signed_samples[CORKHOLLOW_LANES];
+static uint32_t refused;
+
+static void start_within(const struct batch *b, uint32_t budget, uint32_t *position) {
+    uint32_t count;
+    bool finished;
+    refused |= corkhollow_start(program, program_length, b->words, n_inputs, registers, n_registers, outputs, n_outputs, budget, position,
+                                &count, &finished);
+}
+
+static void start(const struct batch *b) {
+    uint32_t position;
+    start_within(b, UINT32_MAX, &position);
+}
+
+static void stop_and_resume(const struct batch *b) {
+    uint32_t position, count;
+    bool finished;
+    start_within(b, 20, &position);
+    refused |= corkhollow_resume(program, program_length, b->words, n_inputs, registers, n_registers, outputs, n_outputs, position,
+                                 UINT32_MAX, &position, &count, &finished);
+}
+
+static void slice(const struct batch *b) { refused |= corkhollow_slice(n_columns, b->strings, b->strings_length, sliced, n_columns); }
+
+/* The same strings with the last bit of each spare: it is set in some batches, which are then refused. */
+static void slice_spare(const struct batch *b) { corkhollow_slice(n_columns - 1, b->strings, b->strings_length, sliced, n_columns); }
+
+static void read_samples(const struct batch *b) { refused |= corkhollow_samples(b->outputs, n_outputs, samples, CORKHOLLOW_LANES); }
+
+static void read_signed(const struct batch *b) {
+    refused |= corkhollow_signed_samples(b->outputs, n_outputs, b->sign, signed_samples, CORKHOLLOW_LANES);
+}
+
+static void draw(const struct batch *b) {
+    refused |= corkhollow_draw(program, program_length, b->strings, b->strings_length, samples, CORKHOLLOW_LANES);
+}
+
+static void draw_signed(const struct batch *b) {
+    refused |= corkhollow_draw_signed(program, program_length, b->strings, b->strings_length, b->sign, signed_samples, CORKHOLLOW_LANES);
+}
+
+static void walk(const struct batch *b) {
+    size_t row;
+    refused |= corkhollow_walk(matrix, matrix_length, b->strings, CORKHOLLOW_WIDTH(n_columns), &row);
+}
+
+struct operation operations[OPERATIONS] = {
+    {"start", start, false, outputs, 0},
+    {"stop and resume", stop_and_resume, false, outputs, 0},
+    {"slice", slice, false, sliced, 0},
+    {"samples", read_samples, false, samples, sizeof samples},
+    {"signed_samples", read_signed, false, signed_samples, sizeof signed_samples},
+    {"draw", draw, false, samples, sizeof samples},
+    {"draw_signed", draw_signed, false, signed_samples, sizeof signed_samples},
+    {"slice, spare bits", slice_spare, true, NULL, 0},
+    {"walk", walk, true, NULL, 0},
+};
+
+bool program_made(size_t columns) {
+    static const uint32_t weights[] = {4, 3, 2, 1};
+    uint32_t count;
+    n_columns = columns;
+    if (corkhollow_build(weights, 4, columns, false, matrix, sizeof matrix, &matrix_length)) return false;
+    if (corkhollow_compile(matrix, matrix_length, program, sizeof program, &program_length)) return false;
+    if (corkhollow_check(program, program_length, &n_registers, &n_inputs, &n_outputs, &count)) return false;
+    for (int i = 0; i < OPERATIONS; i++) {
+        if (operations[i].result == outputs) operations[i].size = n_outputs * sizeof *outputs;
+        if (operations[i].result == sliced) operations[i].size = n_columns * sizeof *sliced;
+    }
+    return true;
+}
+
+static void complete(struct batch *b) {
+    b->strings_length = CORKHOLLOW_LANES * CORKHOLLOW_WIDTH(n_columns);
+    slice(b);
+    memcpy(b->words, sliced, sizeof sliced);
+    start(b);
+    memcpy(b->outputs, outputs, sizeof outputs);
+}
+
+void missing_batch(struct batch *b) {
+    memset(b->strings, 0xff, sizeof b->strings);
+    b->sign = UINT64_MAX;
+    complete(b);
+}
+
+void zero_batch(struct batch *b) {
+    memset(b->strings, 0, sizeof b->strings);
+    b->sign = 0;
+    complete(b);
+}
+
+void random_batch(struct batch *b) {
+    static uint64_t x = 1;
+    for (size_t i = 0; i < sizeof b->strings; i++) {
+        x = x * 6364136223846793005u + 1442695040888963407u;
+        b->strings[i] = x >> 56;
+    }
+    b->sign = x;
+    complete(b);
+}
+
+bool any_refused(void) { return refused != 0; }
