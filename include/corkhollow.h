@@ -24,11 +24,14 @@
  * These are proved, with the answers, in the source (crates/corkhollow). The declarations below are not: they are kept in step by
  * the tests in tests/interface.
  *
- * What no theorem speaks of, and the same tests measure on the archive:
+ * What no theorem speaks of, and tests measure on the archive (tests/interface; of the last, tests/random_bits):
  *
  * - A call takes no memory but its stack, and of that under 12 KiB.
  * - The archive needs `memset` alone from outside, and has no data that can be written. So threads may call at once, also the same
  *   function: a call works on what it is lent and on its own stack. What one call changes is not to be lent to another meanwhile.
+ * - Starting, resuming, slicing, reading samples and drawing carry out the same machine instructions at the same addresses whatever the
+ *   random bits are: strings, words, registers, outputs, sign. But a spare bit that is set ends slicing and drawing at once, with its
+ *   refusal; and the walk chooses by every bit that it reads.
  */
 #ifndef CORKHOLLOW_H
 #define CORKHOLLOW_H
