@@ -134,7 +134,7 @@ pub record Spread (outputs : List ℕ) (sign : ℕ) (rows : List ℕ) : Type 0 w
   pub signs : (j : ℕ) → j < lanes → bitAt (getD rows 15 0) j ≡ min (bitAt sign j) (bitAt (getD outputs 0 0) j)
 
 -- what the rows then say of the lanes, with a sign and without
-pub record Read (outputs : List ℕ) (sign : ℕ) (rows : List ℕ) : Type 0 where
+pub record LaneRows (outputs : List ℕ) (sign : ℕ) (rows : List ℕ) : Type 0 where
   pub plain : (j : ℕ) → j < lanes → getD rows j 0 % 2 ^ 8 ≡ code (sampleOf outputs j)
   pub signed : (j : ℕ) → j < lanes →
       negatedIf (bitAt (getD rows j 0) 15) (getD rows j 0 % 2 ^ 15) ≡ signedCode (bitAt sign j) (sampleOf outputs j)
@@ -235,7 +235,7 @@ module _ (outputs : List ℕ) (sign : ℕ) (rows : List ℕ) (few : length outpu
       (zero-or-one (bitAt (getD outputs 0 0) j) (bitAt-lt (getD outputs 0 0) j))
 
 pub lanes-read : (outputs : List ℕ) (sign : ℕ) (rows now : List ℕ) → length outputs ≤ most-outputs → Spread outputs sign rows →
-    now ≡ transposed rows → Read outputs sign now
+    now ≡ transposed rows → LaneRows outputs sign now
 lanes-read outputs sign rows now few p e =
     rw e (record { plain = read-plain outputs sign rows few p; signed = read-signed outputs sign rows few p })
 

@@ -342,14 +342,14 @@ rounds-bit (then {d} {ds} before x) r c r′ c′ h l e =
     let column = ltb-true (origin d c′ r′) side (u .0) in
     x .new r′ c′ h l ∙ rounds-bit before r c (origin d r′ c′) (origin d c′ r′) row column (u .1)
 
--- whether some place of row r ends elsewhere
-strays : ℕ → Bool
-strays r = any side (λ c. not (ends (1 ∷ 2 ∷ 4 ∷ 8 ∷ 16 ∷ 32 ∷ []) r c r c))
+-- whether a bit of row r comes from elsewhere
+misplaced : ℕ → Bool
+misplaced r = any side (λ c. not (ends (1 ∷ 2 ∷ 4 ∷ 8 ∷ 16 ∷ 32 ∷ []) r c r c))
 
--- none does: the one table, computed at all 4,096 places
-none-strays : any side strays ≡ false
-unfolding any strays ends
-none-strays = refl
+-- none is: the one table, computed at all 4,096 places
+none-misplaced : any side misplaced ≡ false
+unfolding any misplaced ends
+none-misplaced = refl
 
 module _ {a b c d e f g : List ℕ} (r32 : Exchanged 32 side a b) (r16 : Exchanged 16 side b c) (r8 : Exchanged 8 side c d)
     (r4 : Exchanged 4 side d e) (r2 : Exchanged 2 side e f) (r1 : Exchanged 1 side f g) where
@@ -357,8 +357,8 @@ module _ {a b c d e f g : List ℕ} (r32 : Exchanged 32 side a b) (r16 : Exchang
   six = then (then (then (then (then (then start r32) r16) r8) r4) r2) r1
 
   six-bit : (r c : ℕ) → r < side → c < side → bitAt (getD g r 0) c ≡ bitAt (getD a c 0) r
-  unfolding strays
-  six-bit r c h l = rounds-bit six r c r c h l (not-false _ (any-false side c _ (any-false side r strays none-strays h) l))
+  unfolding misplaced
+  six-bit r c h l = rounds-bit six r c r c h l (not-false _ (any-false side c _ (any-false side r misplaced none-misplaced h) l))
 
   pub six-transpose : g ≡ transposed a
   unfolding transposed

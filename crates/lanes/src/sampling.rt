@@ -7,7 +7,7 @@ ghost use Rattle.laws.specs.Outcome.{laid, mapped};
 ghost use Rattle.laws.specs.Words.{bitAt};
 ghost use Rattle.programs.specs.Limits.{most-outputs};
 ghost use Rattle.lanes.specs.Transposing.{Table};
-ghost use Rattle.lanes.specs.Samples.{Read, Spread, negatedIf, sampled, samplesOf, signedSamplesOf};
+ghost use Rattle.lanes.specs.Samples.{LaneRows, Spread, negatedIf, sampled, samplesOf, signedSamplesOf};
 use crate::slicing::LANES;
 use crate::transposing::SIDE;
 use crate::transposing::transpose;
@@ -48,9 +48,9 @@ fn spread(outputs: &[u64], sign: u64, rows: &mut [u64; SIDE])
 }
 
 // Row j becomes what lane j holds: in 15 bits its number, or all ones for a miss, and above them its sign.
-fn read(outputs: &[u64], sign: u64, rows: &mut [u64; SIDE])
+fn lane_rows(outputs: &[u64], sign: u64, rows: &mut [u64; SIDE])
     requires { ⌜ (length (now outputs) ≤ most-outputs) × Table (now rows) ⌝ }
-    ensures { λ _. ⌜ Read (now (outputs .entry)) sign (now (rows .exit)) ⌝ }
+    ensures { λ _. ⌜ LaneRows (now (outputs .entry)) sign (now (rows .exit)) ⌝ }
 {
     spread(outputs, sign, rows);
     transpose(rows);
@@ -71,7 +71,7 @@ fn distance(row: u64) -> u16
 }
 
 // The sign in a lane's row.
-fn negates(row: u64) -> u16
+fn sign_bit(row: u64) -> u16
     ensures { λ r. ⌜ (r ≡ bitAt row 15) × (r < 2) ⌝ }
 {
     ((row >> SIGN) & 1) as u16
@@ -91,7 +91,7 @@ fn negated_if(bit: u16, number: u16) -> i16
 fn signed_sample(row: u64) -> i16
     ensures { λ r. ⌜ r ≡ negatedIf (bitAt row 15) (row % 2 ^ 15) ⌝ }
 {
-    negated_if(negates(row), distance(row))
+    negated_if(sign_bit(row), distance(row))
 }
 
 // Reads the samples of all lanes from output words and lays them at the front of `samples`; or refusal 3 for the number of output words,
@@ -112,7 +112,7 @@ pub fn samples(outputs: &[u64], samples: &mut [u8]) -> Sampled
         return Sampled::Refused(Refusal::Buffer);
     }
     let mut rows = [0u64; SIDE];
-    read(outputs, 0, &mut rows);
+    lane_rows(outputs, 0, &mut rows);
     for j in 0..LANES {
         samples[j] = sample(rows[j]);
     }
@@ -137,7 +137,7 @@ pub fn signed_samples(outputs: &[u64], sign: u64, samples: &mut [i16]) -> Sample
         return Sampled::Refused(Refusal::Buffer);
     }
     let mut rows = [0u64; SIDE];
-    read(outputs, sign, &mut rows);
+    lane_rows(outputs, sign, &mut rows);
     for j in 0..LANES {
         samples[j] = signed_sample(rows[j]);
     }

@@ -8,13 +8,13 @@ use Rattle.laws.specs.Lists.{upto}
 use Rattle.laws.specs.Lay.{Laid, upto-none, laid-store}
 use Rattle.lanes.specs.Transposing.{blank-table}
 use Rattle.lanes.specs.Slicing.{lanes}
-use Rattle.lanes.specs.Samples.{Read, kept, signedCode, sampleOf, reads-none, reads-many, reads-short, reads-all}
+use Rattle.lanes.specs.Samples.{LaneRows, kept, signedCode, sampleOf, reads-none, reads-many, reads-short, reads-all}
 use Rattle.lanes.proofs.sampling.signed_samples.Statement.{statement}
 use Rattle.lanes.proofs.sampling.signed_samples.Tie as tie
 
 abbrev Inv-loop : tie.InvT-loop
 Inv-loop outputs sign samples₀ rows j₀ samples j =
-    (j ≤ lanes) × Read outputs sign rows × Laid 0 (upto j (λ j. signedCode (bitAt sign j) (sampleOf outputs j))) samples₀ samples
+    (j ≤ lanes) × LaneRows outputs sign rows × Laid 0 (upto j (λ j. signedCode (bitAt sign j) (sampleOf outputs j))) samples₀ samples
 
 abbrev μ-loop : tie.MeasureT-loop
 μ-loop outputs sign samples₀ rows j₀ samples j = lanes - j
@@ -28,11 +28,11 @@ returns-2 c = reads-many _ _ _ (c .before .if1 .left) (c .if2 .taken)
 returns-3 : tie.Need-returns-3 Inv-loop μ-loop
 returns-3 c = reads-short _ _ _ (c .before .before .if1 .left) (c .before .if2 .left) (c .if3 .taken)
 
-read-requires : tie.Need-read-requires Inv-loop μ-loop
-read-requires c κs = (search needs, blank-table)
+lane-rows-requires : tie.Need-lane-rows-requires Inv-loop μ-loop
+lane-rows-requires c κs = (search needs, blank-table)
 
 loop-holds : tie.Need-loop-holds Inv-loop μ-loop
-loop-holds c = (search needs, c .read .ensures, upto-none _ _ _)
+loop-holds c = (search needs, c .lane-rows .ensures, upto-none _ _ _)
 
 loop-again : tie.Need-loop-again Inv-loop μ-loop
 loop-again c =
@@ -55,6 +55,6 @@ returns-4 c =
 pub signed-samples-spec : {M : Type 1} → statement M
 signed-samples-spec =
     tie.close
-    (tie.spec Inv-loop μ-loop returns returns-2 returns-3 read-requires loop-holds (λ c. search needs) (λ c. search needs)
+    (tie.spec Inv-loop μ-loop returns returns-2 returns-3 lane-rows-requires loop-holds (λ c. search needs) (λ c. search needs)
     (λ c κs. search needs) (λ c. search needs) (λ c. search needs) (λ c. search needs) (λ c. search needs) loop-again (λ c. search needs)
     returns-4)
