@@ -10,14 +10,14 @@ use borrow.Author.Tests.{lt-ltb, le-ltb}
 use mir.Facts.{toZ-pos, toZ-ofZ}
 use mir.Syntax.{w16}
 use mir.Val.{SFits, toZ, ofZ}
-use lib.Bits.{bitAnd, bitOr, and-le-r, or-lt}
+use lib.Bits.{bitAnd, bitOr, or-lt}
 use lib.Dec.{eqb, ltb, lit<}
 use lib.IntN.{ℤ, pos, negsuc, negℤ, _+ℤ_, _-ℤ_, +ℤ-idl, +ℤ-idr}
 use lib.ListN.{length, getD, set, List·getD-eq-default}
 use lib.Seq.{getD-set-same, getD-set-other}
 use Rattle.laws.specs.Tests.{reached, zero-or-one}
 use Rattle.laws.specs.Words.{bitAt, pack, bitAt-lt, bitAt-zero, bitAt-and, bitAt-or, bitAt-not, bitAt-pack}
-use Rattle.laws.specs.Words.{pack-eq, pack-mod, pack-ones, pack-short}
+use Rattle.laws.specs.Words.{masked-lt, pack-eq, pack-mod, pack-ones, pack-short}
 use Rattle.laws.specs.Lists.{upto}
 use Rattle.laws.specs.Lay.{lay, lay-is, Laid, upto-done}
 use Rattle.laws.specs.Outcome.{Outcome, refused, gives, refuse, mapped, laid, _>>_, ends-refused, ends-given}
@@ -174,7 +174,7 @@ module _ (outputs : List ℕ) where
         Spread outputs sign (set rows 15 (bitAnd sign hits))
     cells-done k sign rows a b p =
         let all : Cells outputs 15 rows = reached (λ n. Cells outputs n rows) k 15 a b p in
-        let small : bitAnd sign hits < 2 ^ 64 = omega (arith, and-le-r sign hits) in
+        let small : bitAnd sign hits < 2 ^ 64 = masked-lt sign hits (2 ^ 64) m in
         record {
           number = cells-kept 15 (bitAnd sign hits) rows small all 15 (omega arith);
           signs = λ j v.
@@ -200,18 +200,15 @@ module _ (outputs : List ℕ) (j k : ℕ) where
 
 module _ (outputs : List ℕ) (sign : ℕ) (rows : List ℕ) (few : length outputs ≤ most-outputs) (p : Spread outputs sign rows) (j : ℕ)
     (b : j < lanes) where
-  lane-row : getD (transposed rows) j 0 ≡ pack side (λ t. bitAt (getD rows t 0) j)
-  lane-row = transposed-row rows j b
-
   low-cells : (k : ℕ) → k ≤ 15 → getD (transposed rows) j 0 % 2 ^ k ≡ pack k (cell outputs j)
   low-cells k h =
-      ap (λ (x : ℕ). x % 2 ^ k) lane-row ∙
+      ap (λ (x : ℕ). x % 2 ^ k) (transposed-row rows j b) ∙
       (pack-mod side k (λ t. bitAt (getD rows t 0) j) (λ t l. bitAt-lt (getD rows t 0) j) (omega arith) ∙
       pack-eq k (λ t. bitAt (getD rows t 0) j) (cell outputs j) (λ t l. p .number .cells t j (omega arith) b))
 
   sign-bit : bitAt (getD (transposed rows) j 0) 15 ≡ min (bitAt sign j) (bitAt (getD outputs 0 0) j)
   sign-bit =
-      ap (λ (x : ℕ). bitAt x 15) lane-row ∙
+      ap (λ (x : ℕ). bitAt x 15) (transposed-row rows j b) ∙
       (bitAt-pack side (λ t. bitAt (getD rows t 0) j) 15 (λ t l. bitAt-lt (getD rows t 0) j) (omega arith) ∙ p .signs j b)
 
   read-plain : getD (transposed rows) j 0 % 2 ^ 8 ≡ code (sampleOf outputs j)

@@ -8,14 +8,15 @@ use native.Mathlib.Nat.{eq-or-lt-of-le, mul-le-mul-right, mod-lt, zero-mod, add-
 use native.Mathlib.Nat.{div-eq-of-lt, div-eq-of-lt-le, div-eq-sub-div}
 use native.Mathlib.Omega.{arith}
 use borrow.Author.Tests.{eqb-true, ltb-true, not-true, not-false}
-use lib.Bits.{bitAnd, bitXor, xor-lt, and-le-r}
+use lib.Bits.{bitAnd, bitXor, xor-lt}
 use lib.Dec.{eqb, ltb}
 use lib.ListN.{length, getD, set, length-set, replicate}
 use lib.Pow.{pow-pos}
 use lib.Seq.{ext-getD, getD-set-same, getD-set-other}
 use Rattle.laws.specs.Tests.{both, lt-or-ge, reached, zero-or-one}
 use Rattle.laws.specs.Sums.{any, any-false}
-use Rattle.laws.specs.Words.{bitAt, pack, bitAt-lt, bitAt-and, bitAt-xor, bitAt-shr, bitAt-shl, bitAt-shl-below, pack-bits, pack-eq}
+use Rattle.laws.specs.Words.{bitAt, pack, bitAt-lt, bitAt-and, bitAt-xor, bitAt-shr, bitAt-shl, bitAt-shl-below}
+use Rattle.laws.specs.Words.{masked-lt, pack-bits, pack-eq}
 use Rattle.laws.specs.Lists.{upto, row-end, length-upto, getD-upto, all-set, all-replicate}
 
 -- the rows of a table, and the bits of a row
@@ -50,28 +51,28 @@ half d c = c / d % 2
 half-of : (d c : ℕ) → (half d c ≡ 0) ⊎ (half d c ≡ 1)
 half-of d c = zero-or-one (half d c) (omega arith)
 
+-- a block that begins at k: its first half, its second half, and where the next one begins
+module _ (d k : ℕ) (e : k % (2 * d) ≡ 0) where
+  begins : k / (2 * d) * (2 * d) ≡ k
+  begins = omega (arith, div-add-mod' k (2 * d))
+
+  first-half : (i : ℕ) → k ≤ i → i < k + d → half d i ≡ 0
+  first-half i a b =
+      let q : ℕ = k / (2 * d) in
+      let at : i / d ≡ 2 * q = div-eq-of-lt-le {k = 2 * q} d {m = i} (omega (arith, begins)) (omega (arith, begins)) in
+      rw at (omega arith)
+
+  second-half : (i : ℕ) → k + d ≤ i → i < k + 2 * d → half d i ≡ 1
+  second-half i a b =
+      let q : ℕ = k / (2 * d) in
+      let at : i / d ≡ 2 * q + 1 = div-eq-of-lt-le {k = 2 * q + 1} d {m = i} (omega (arith, begins)) (omega (arith, begins)) in
+      rw at (omega arith)
+
+  pub block-next : (k + 2 * d) % (2 * d) ≡ 0
+  block-next = add-mod-right k (2 * d) ∙ e
+
+-- d places back, in the other half
 module _ (d : ℕ) (z : 0 < d) where
-  -- a block that begins at k: its first half, its second half, and where the next one begins
-  module _ (k : ℕ) (e : k % (2 * d) ≡ 0) where
-    begins : k / (2 * d) * (2 * d) ≡ k
-    begins = omega (arith, div-add-mod' k (2 * d))
-
-    first-half : (i : ℕ) → k ≤ i → i < k + d → half d i ≡ 0
-    first-half i a b =
-        let q : ℕ = k / (2 * d) in
-        let at : i / d ≡ 2 * q = div-eq-of-lt-le {k = 2 * q} d {m = i} (omega (arith, begins)) (omega (arith, begins)) in
-        rw at (omega arith)
-
-    second-half : (i : ℕ) → k + d ≤ i → i < k + 2 * d → half d i ≡ 1
-    second-half i a b =
-        let q : ℕ = k / (2 * d) in
-        let at : i / d ≡ 2 * q + 1 = div-eq-of-lt-le {k = 2 * q + 1} d {m = i} (omega (arith, begins)) (omega (arith, begins)) in
-        rw at (omega arith)
-
-    pub block-next : (k + 2 * d) % (2 * d) ≡ 0
-    block-next = add-mod-right k (2 * d) ∙ e
-
-  -- d places back, in the other half
   back-low : (c : ℕ) → half d c ≡ 1 → (d ≤ c) × (half d (c - d) ≡ 0)
   back-low c e =
       ⊎-elim (λ (l : c < d). absurd (omega (arith, div-eq-of-lt {n = c} {m = d} l)))
@@ -112,16 +113,13 @@ module _ {d m : ℕ} (round : Round d m) where
   block-in k e h =
       let q : ℕ = k / (2 * d) in
       let n : ℕ = side / (2 * d) in
-      let at : q * (2 * d) ≡ k = begins d (round .some) k e in
-      let whole : n * (2 * d) ≡ side = begins d (round .some) side (round .fills) in
+      let at : q * (2 * d) ≡ k = begins d k e in
+      let whole : n * (2 * d) ≡ side = begins d side (round .fills) in
       ⊎-elim (λ (l : q < n). omega (arith, row-end {v = q} {m = n} {size = side} (2 * d) (2 * d) l refl (omega arith)))
       (λ (l : n ≤ q). absurd (omega (arith, mul-le-mul-right {m = n} {n = q} (2 * d) l))) (lt-or-ge q n)
 
-  pub block-first : 0 % (2 * d) ≡ 0
-  block-first = zero-mod (2 * d)
-
   pub apart : d < side
-  apart = omega (arith, round .some, block-in 0 block-first (omega arith))
+  apart = omega (arith, round .some, block-in 0 (zero-mod (2 * d)) (omega arith))
 
 -- ---- one exchange: the two rows x and y, d apart, after it
 -- the bits in which x, shifted down, and y differ, in the columns of the mask
@@ -163,11 +161,11 @@ module _ {d m : ℕ} (round : Round d m) (x y : ℕ) where
     high-crossed e =
         rw (bitAt-xor y (crossing d m x y) c, cross-bit c) (omega (arith, round .mask c h, bitAt-lt x (d + c), bitAt-lt y c))
 
-  low-lt : x < 2 ^ 64 → lowOf d m x y < 2 ^ 64
-  low-lt h = xor-lt 64 x ((crossing d m x y * 2 ^ d) % 2 ^ 64) h (mod-lt (crossing d m x y * 2 ^ d) (pow-pos 64))
-
   high-lt : y < 2 ^ 64 → highOf d m x y < 2 ^ 64
-  high-lt h = xor-lt 64 y (crossing d m x y) h (omega (arith, and-le-r (bitXor (x / 2 ^ d) y) m, round .small))
+  high-lt h = xor-lt 64 y (crossing d m x y) h (masked-lt (bitXor (x / 2 ^ d) y) m (2 ^ 64) (round .small))
+
+low-lt : (d m x y : ℕ) → x < 2 ^ 64 → lowOf d m x y < 2 ^ 64
+low-lt d m x y h = xor-lt 64 x ((crossing d m x y * 2 ^ d) % 2 ^ 64) h (mod-lt (crossing d m x y * 2 ^ d) (pow-pos 64))
 
 -- ---- the loop over a block
 -- of the block that begins at k, rows k to i - 1 are exchanged with those d behind them
@@ -252,7 +250,7 @@ module _ {d m : ℕ} (round : Round d m) (k : ℕ) (old mid now : List ℕ) (e :
 
   first-bit : (r c : ℕ) → k ≤ r → r < k + d → c < side → bitAt (getD now r 0) c ≡ bitAt (getD old (origin d r c) 0) (origin d c r)
   first-bit r c a b l =
-      let s : half d r ≡ 0 = first-half d (round .some) k e r a b in
+      let s : half d r ≡ 0 = first-half d k e r a b in
       ⊎-elim
       (λ (t : half d c ≡ 0).
       let u : r + 0 * d - 0 * d ≡ r = omega arith in
@@ -267,7 +265,7 @@ module _ {d m : ℕ} (round : Round d m) (k : ℕ) (old mid now : List ℕ) (e :
   second-bit : (r c : ℕ) → k ≤ r → r < k + d → c < side →
       bitAt (getD now (r + d) 0) c ≡ bitAt (getD old (origin d (r + d) c) 0) (origin d c (r + d))
   second-bit r c a b l =
-      let s : half d (r + d) ≡ 1 = second-half d (round .some) k e (r + d) (omega arith) (omega arith) in
+      let s : half d (r + d) ≡ 1 = second-half d k e (r + d) (omega arith) (omega arith) in
       ⊎-elim
       (λ (t : half d c ≡ 0).
       let u : r + d + 0 * d - 1 * d ≡ r = omega arith in
@@ -302,7 +300,7 @@ module _ {d m : ℕ} (round : Round d m) (k : ℕ) (old mid now : List ℕ) (e :
           long = q .long ∙ p .table .long;
           words = by-part (λ r. getD now r 0 < 2 ^ 64)
               (λ r a. rw (q .before r a) (p .table .words r))
-              (λ r a b. rw (q .low r a b) (low-lt round (getD mid r 0) (getD mid (r + d) 0) (p .table .words r)))
+              (λ r a b. rw (q .low r a b) (low-lt d m (getD mid r 0) (getD mid (r + d) 0) (p .table .words r)))
               (λ r a b. rw (q .high r a b) (high-lt round (getD mid r 0) (getD mid (r + d) 0) (p .table .words (r + d))))
               (λ r a. rw (q .after r (omega arith)) (p .table .words r));
         };

@@ -1,10 +1,11 @@
 -- `lanes::exchange` meets its contract: the blocks below row k are exchanged. Assumes nothing.
 use borrow.Author.Needs.{needs}
+use native.Mathlib.Nat.{zero-mod}
 use native.Mathlib.Omega.{arith}
 use mathlib.Core.Path.{_≡_}
 use Prim.Native.Nat.{_-_, _*_, _%_, _≤_}
 use Rattle.lanes.specs.Transposing.{Exchanged, side, exchanged-none, exchanged-more, exchanged-done}
-use Rattle.lanes.specs.Transposing.{apart, block-first, block-in, block-next}
+use Rattle.lanes.specs.Transposing.{apart, block-in, block-next}
 use Rattle.lanes.proofs.transposing.exchange.Statement.{statement}
 use Rattle.lanes.proofs.transposing.exchange.Tie as tie
 
@@ -15,7 +16,7 @@ abbrev μ-loop : tie.MeasureT-loop
 μ-loop rows₀ d mask k₀ rows k = side - k
 
 loop-holds : tie.Need-loop-holds Inv-loop μ-loop
-loop-holds c = (search needs, block-first (c .pre .0), exchanged-none _ _ (c .pre .1))
+loop-holds c = (search needs, zero-mod _, exchanged-none _ _ (c .pre .1))
 
 exchange-block-requires : tie.Need-exchange-block-requires Inv-loop μ-loop
 exchange-block-requires c κs =
@@ -39,7 +40,7 @@ loop-again c =
     let at = c .before .before .before in
     let round = at .before .pre .0 in (
       block-in round _ (at .loop .inv .1) (c .before .before .loop-test .taken),
-      block-next _ (round .some) _ (at .loop .inv .1),
+      block-next _ _ (at .loop .inv .1),
       exchanged-more round _ _ _ _ (at .loop .inv .1) (at .loop .inv .2) (c .exchange-block .ensures),
     )
 
