@@ -31,7 +31,7 @@
  *   function: a call works on what it is lent and on its own stack. What one call changes is not to be lent to another meanwhile.
  * - Starting, resuming, slicing, reading samples and drawing carry out the same machine instructions at the same addresses whatever the
  *   random bits are: strings, words, registers, outputs, sign. But a spare bit that is set ends slicing and drawing at once, with its
- *   refusal; and the walk chooses by every bit that it reads.
+ *   refusal; and the walk, and with it corkhollow_spent, chooses by every bit that it reads.
  */
 #ifndef CORKHOLLOW_H
 #define CORKHOLLOW_H
@@ -117,12 +117,22 @@ uint32_t corkhollow_build(const uint32_t *weights, size_t weights_length,
                           size_t *length);
 
 /*
- * Walks a matrix file on one packed string of as many bits as it has columns: the row that is hit, or CORKHOLLOW_MISS.
+ * Walks a matrix file on one packed string of as many bits as it has columns: the row that is hit, or CORKHOLLOW_MISS, and how many
+ * columns the walk used, one bit each: c + 1 for a hit in column c, counted from 0, and all columns for a miss.
  * Refusals, in the order tried: 1, 2, 3, 4, 5, 6 for the file; 13, then 5 for the string.
  */
 uint32_t corkhollow_walk(const uint8_t *file, size_t file_length,
                          const uint8_t *string, size_t string_length,
-                         size_t *row);
+                         size_t *row, size_t *used);
+
+/*
+ * Adds up the columns that the walks on 64 packed strings use, one string after another, of as many bits each as the matrix file has
+ * columns: the bits that 64 samples cost where a walk takes them one by one. The total is from 64 to 64 * columns.
+ * Refusals, in the order tried: 1, 2, 3, 4, 5, 6 for the file; 13, then 5 for `strings`.
+ */
+uint32_t corkhollow_spent(const uint8_t *file, size_t file_length,
+                          const uint8_t *strings, size_t strings_length,
+                          size_t *total);
 
 /* ---- program files ---- */
 

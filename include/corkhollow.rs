@@ -73,6 +73,14 @@ pub mod raw {
             string: *const u8,
             string_length: usize,
             row: *mut usize,
+            used: *mut usize,
+        ) -> u32;
+        pub fn corkhollow_spent(
+            file: *const u8,
+            file_length: usize,
+            strings: *const u8,
+            strings_length: usize,
+            total: *mut usize,
         ) -> u32;
         pub fn corkhollow_compile(
             file: *const u8,
@@ -186,6 +194,13 @@ impl fmt::Display for Refusal {
 
 impl core::error::Error for Refusal {}
 
+/// How a walk ended: the row that it hit, or none, and how many columns it used, all of them where it missed.
+#[derive(Clone, Copy, Debug, PartialEq, Eq)]
+pub struct Walk {
+    pub row: Option<usize>,
+    pub used: usize,
+}
+
 /// What a program's header says.
 #[derive(Clone, Copy, Debug, PartialEq, Eq)]
 pub struct Header {
@@ -274,9 +289,9 @@ pub fn build(
     settle(returned, length)
 }
 
-/// Walks a matrix file on one packed string: the row that is hit, or none.
-pub fn walk(file: &[u8], string: &[u8]) -> Result<Option<usize>, Refusal> {
-    let mut row = 0;
+/// Walks a matrix file on one packed string: the row that is hit, or none, and the columns used.
+pub fn walk(file: &[u8], string: &[u8]) -> Result<Walk, Refusal> {
+    let (mut row, mut used) = (0, 0);
     // SAFETY: as in `read`.
     let returned = unsafe {
         raw::corkhollow_walk(
@@ -285,9 +300,27 @@ pub fn walk(file: &[u8], string: &[u8]) -> Result<Option<usize>, Refusal> {
             string.as_ptr(),
             string.len(),
             &mut row,
+            &mut used,
         )
     };
-    settle(returned, (row != usize::from(MISS)).then_some(row))
+    let row = (row != usize::from(MISS)).then_some(row);
+    settle(returned, Walk { row, used })
+}
+
+/// Adds up the columns that the walks on 64 packed strings use.
+pub fn spent(file: &[u8], strings: &[u8]) -> Result<usize, Refusal> {
+    let mut total = 0;
+    // SAFETY: as in `read`.
+    let returned = unsafe {
+        raw::corkhollow_spent(
+            file.as_ptr(),
+            file.len(),
+            strings.as_ptr(),
+            strings.len(),
+            &mut total,
+        )
+    };
+    settle(returned, total)
 }
 
 /// Compiles a matrix file, and tells the program's length.

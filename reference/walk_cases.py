@@ -5,22 +5,23 @@ Written from 01 and the papers alone, with exact integers and 120-digit decimals
 """
 import random
 from decimal import Decimal, getcontext
+from fractions import Fraction
 
 getcontext().prec = 120
 chance = random.Random(20260)
 
 
 def walk(rows, n, bits):
-    """01, "Matrix and walk": the row that is hit, or None."""
+    """01, "Matrix and walk", and 02, order 1: the row that is hit, or None, and the columns used."""
     d = 0
     for c in range(n):
         d = 2 * d + bits[c]
         for v in range(len(rows) - 1, -1, -1):
             if rows[v] >> (n - 1 - c) & 1:
                 if d == 0:
-                    return v
+                    return v, c + 1
                 d -= 1
-    return None
+    return None, n
 
 
 def packed(x, n):
@@ -66,10 +67,29 @@ class Cases:
 
     def string(self, x):
         text = packed(x, self.n).hex()
-        hit = walk(self.rows, self.n, bits_of(x, self.n))
+        hit, used = walk(self.rows, self.n, bits_of(x, self.n))
         self.lines.append("s " + text)
-        self.printed.append(text + " " + ("miss" if hit is None else str(hit)))
+        self.printed.append("%s %s %d" % (text, "miss" if hit is None else hit, used))
         return hit
+
+    def used(self, x):
+        return walk(self.rows, self.n, bits_of(x, self.n))[1]
+
+    def batch(self, strings):
+        """64 strings: what the walks on them have used together."""
+        assert len(strings) == 64
+        total = sum(self.used(x) for x in strings)
+        assert 64 <= total <= 64 * self.n
+        self.lines.append("u " + b"".join(packed(x, self.n) for x in strings).hex())
+        self.printed.append(str(total))
+        return total
+
+    def moment(self, k):
+        """The mean over all 2^n strings of the columns used, to the power k: a 1 in column c is hit by one of the 2^(c+1) beginnings of
+        c + 1 bits, and what the rows leave of 2^n misses."""
+        ones = [sum(r >> (self.n - 1 - c) & 1 for r in self.rows) for c in range(self.n)]
+        hits = sum(Fraction((c + 1) ** k * many, 2 ** (c + 1)) for c, many in enumerate(ones))
+        return hits + self.n**k * Fraction(2**self.n - sum(self.rows), 2**self.n)
 
     def total(self):
         self.lines.append("t")
@@ -97,6 +117,14 @@ def hand(cases):
     cases.note("01, Checked by hand: one row 0: both miss")
     cases.matrix([0], 1)
     assert [cases.string(x) for x in (0, 1)] == [None, None]
+    cases.note("one row 1: 0 hits, 1 misses, and each uses the one column there is; 64 strings use 64")
+    cases.matrix([1], 1)
+    assert [cases.string(x) for x in (0, 1)] == [0, None] and [cases.used(x) for x in (0, 1)] == [1, 1]
+    assert cases.batch([0, 1] * 32) == 64
+    cases.note("rows 10, 01, 01: 00 and 01 use one column, 10 and 11 use two; 16 of each use 96 together, all ones 128")
+    cases.matrix([0b10, 0b01, 0b01], 2)
+    assert [cases.string(x) for x in range(4)] == [0, 0, 2, 1] and [cases.used(x) for x in range(4)] == [1, 1, 2, 2]
+    assert cases.batch([0, 1, 2, 3] * 16) == 96 and cases.batch([3] * 64) == 128 and cases.moment(1) == Fraction(3, 2)
 
 
 def table_5(cases):
@@ -126,7 +154,8 @@ def look_up(cases):
     cases.matrix(rows, 128)
     for start, length, row in ((0b0, 1, 0), (0b10, 2, 1), (0b110, 3, 0)):
         for _ in range(8):
-            assert cases.string(start << (128 - length) | chance.getrandbits(128 - length)) == row
+            string = start << (128 - length) | chance.getrandbits(128 - length)
+            assert cases.string(string) == row and cases.used(string) == length
     assert len({cases.string(0b111 << 125 | chance.getrandbits(125)) for _ in range(16)}) > 1
     cases.each_row()
     cases.note("its first 3 columns: only 111 misses")
@@ -150,11 +179,21 @@ def gaussian(cases):
     cases.total()
     cases.each_row()
     cases.at_random(40)
+    spent(cases)
     for columns, most in ((32, 39), (64, 56)):
         cases.note("its first %d columns: no row above %d" % (columns, most))
         cases.matrix([r >> (128 - columns) for r in rows], columns)
         cases.each_row()
         assert all(hit is None or hit <= most for hit in cases.at_random(60) + [cases.string(2**columns - 1)])
+
+
+def spent(cases):
+    """The mean of the columns used over all strings is 4.8806; that of many is nearer to it than five of its standard deviations."""
+    mean, batches, bits = cases.moment(1), 32, random.Random(20261)
+    assert round(mean, 4) == Fraction(48806, 10000)
+    cases.note("%d batches of 64 strings at random; the mean over all strings is 4.8806 columns a string" % batches)
+    total = sum(cases.batch([bits.getrandbits(cases.n) for _ in range(64)]) for _ in range(batches))
+    assert (Fraction(total, 64 * batches) - mean) ** 2 < 25 * (cases.moment(2) - mean**2) / (64 * batches)
 
 
 def main():

@@ -71,10 +71,16 @@ pub fn build(
 }
 
 /// Walking on one string; row 255 is a miss.
-pub fn walk(file: &[u8], string: &[u8], row: &mut usize) -> u32 {
-    settle(walks::walk(file, string), |hit| {
-        *row = hit.unwrap_or(usize::from(MISS))
+pub fn walk(file: &[u8], string: &[u8], row: &mut usize, used: &mut usize) -> u32 {
+    settle(walks::walk(file, string), |walked| {
+        *row = walked.row.unwrap_or(usize::from(MISS));
+        *used = walked.used;
     })
+}
+
+/// Adding up what the walks on 64 strings use.
+pub fn spent(file: &[u8], strings: &[u8], total: &mut usize) -> u32 {
+    settle(walks::spent(file, strings), |spent| *total = spent)
 }
 
 /// Compiling a matrix file.

@@ -1,9 +1,10 @@
 //! A second implementation of the 64-lane Knuth-Yao noise engine.
 //!
-//! It is written from the scope document, which the comments call 01, and shares no code with the
-//! engine: what the engine must answer is found here by another way wherever there is one. The sum
-//! T and every distance are numbers of any size, rows come from one big division, and files are
-//! decoded into lists before anything else is done with them.
+//! It is written from the scope document, which the comments call 01, and from order 1 of the
+//! change requests, 02, and shares no code with the engine: what the engine must answer is found
+//! here by another way wherever there is one. The sum T and every distance are numbers of any size,
+//! rows come from one big division, and files are decoded into lists before anything else is done
+//! with them.
 //!
 //! An operation here is a function of its inputs and of the lengths of what it is lent. It answers
 //! what the operation answers together with the elements that it lays down at the front of what it

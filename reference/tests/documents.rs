@@ -3,10 +3,10 @@
 use reference::compiler::translate;
 use reference::matrix::{check, Matrix};
 use reference::natural::Natural;
-use reference::random::Random;
+use reference::random::{self, Random};
 use reference::tables::{document_001, document_002, document_004};
 use reference::vectors::line::Hash;
-use reference::walk::{place_after, walk_bits, Place};
+use reference::walk::{place_after, spent, used_by_all, walk_bits, Place};
 
 fn bits_of(text: &str) -> Vec<u8> {
     text.bytes().map(|digit| digit - b'0').collect()
@@ -23,6 +23,22 @@ fn row_after(matrix: &Matrix, text: &str) -> Option<usize> {
 fn largest_row_within(matrix: &Matrix, columns: usize) -> usize {
     let set = |v: &usize| matrix.row(*v)[..columns].contains(&1);
     (0..matrix.rows).filter(set).max().unwrap()
+}
+
+/// What a walk uses in the mean over all strings: ten-thousandths of a column, rounded to the
+/// nearest.
+fn mean_used(matrix: &Matrix) -> Natural {
+    let half = Natural::power_of_two(matrix.columns - 1);
+    let scaled = used_by_all(matrix).times(&Natural::from(10_000));
+    scaled.plus(&half).shifted_down(matrix.columns)
+}
+
+/// What 625 batches of 64 random strings spend: 40,000 walks. The deviation of their total is 200
+/// times that of one walk.
+fn spent_by_batches(matrix: &Matrix, seed: u64) -> usize {
+    let (file, mut random) = (matrix.encode(), Random::new(seed));
+    let batches = (0..625).map(|_| random::packed_strings(&mut random, matrix.columns, 64));
+    batches.map(|strings| spent(&file, &strings).unwrap()).sum()
 }
 
 #[test]
@@ -61,19 +77,13 @@ fn look_up_tables_of_001() {
     assert_eq!(found, 30);
 }
 
-/// Section 5.1: about 2.031 random bits a sample.
+/// Section 5.1: about 2.031 random bits a sample, as measured there. Over all strings it is 2.0309.
 #[test]
 fn bits_spent_by_001() {
     let matrix = document_001();
-    let mut random = Random::new(1);
-    let mut spent = 0;
-    for _ in 0..20_000 {
-        match place_after(&matrix, &random.bits(128)) {
-            Place::Hit { column, .. } => spent += column + 1,
-            Place::Left(_) => panic!("a miss has probability below 2^-100"),
-        }
-    }
-    assert!((40_000..41_300).contains(&spent));
+    assert_eq!(mean_used(&matrix), Natural::from(20_309));
+    // 40,000 times the mean, give or take six times the deviation, which is 200 × 1.528.
+    assert!(spent_by_batches(&matrix, 1).abs_diff(81_235) < 1_834);
 }
 
 #[test]
@@ -99,6 +109,16 @@ fn levels_of_002() {
     assert!((12..=20).contains(&open));
 }
 
+/// A sample takes 4.8806 columns over all strings, worked out with 160 decimal digits by other
+/// means.
+#[test]
+fn bits_spent_by_002() {
+    let matrix = document_002();
+    assert_eq!(mean_used(&matrix), Natural::from(48_806));
+    // 40,000 times the mean, give or take six times the deviation, which is 200 × 1.701.
+    assert!(spent_by_batches(&matrix, 2).abs_diff(195_225) < 2_042);
+}
+
 #[test]
 fn program_of_002() {
     let program = translate(&document_002());
@@ -118,10 +138,10 @@ fn table_of_004() {
     );
     let mut random = Random::new(4);
     for _ in 0..1_000 {
-        assert!(walk_bits(&matrix, &random.bits(80)).is_some());
+        assert!(walk_bits(&matrix, &random.bits(80)).row.is_some());
     }
     for bit in [0, 1] {
-        assert!(walk_bits(&matrix, &[bit; 80]).is_some());
+        assert!(walk_bits(&matrix, &[bit; 80]).row.is_some());
     }
 }
 

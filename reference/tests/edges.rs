@@ -10,11 +10,21 @@ use reference::machine::{resume, start};
 use reference::matrix::{check, read, write, Matrix};
 use reference::program;
 use reference::record::put;
-use reference::walk::walk;
+use reference::refusal::Answer;
+use reference::walk::{spent, walk, Walked};
 use reference::weights::build;
 
 fn file_of(rows: &[&str]) -> Vec<u8> {
     Matrix::from_texts(rows).encode()
+}
+
+fn hit(row: usize, used: usize) -> Answer<Walked> {
+    let row = Some(row);
+    Ok(Walked { row, used })
+}
+
+fn miss(used: usize) -> Answer<Walked> {
+    Ok(Walked { row: None, used })
 }
 
 /// A matrix file with this header and these bytes after it.
@@ -151,12 +161,12 @@ fn walk_tries_the_string_after_the_matrix() {
     assert_eq!(walk(&file, &[]), Err(13));
     assert_eq!(walk(&file, &[0x01]), Err(5));
     assert_eq!(walk(&file, &[0x20]), Err(5));
-    assert_eq!(walk(&file, &[0x80, 0xff]), Ok(Some(2)));
+    assert_eq!(walk(&file, &[0x80, 0xff]), hit(2, 2));
     let nine = file_of(&["000000001"]);
     assert_eq!(walk(&nine, &[0x00]), Err(13));
     assert_eq!(walk(&nine, &[0x00, 0x7f]), Err(5));
-    assert_eq!(walk(&nine, &[0x00, 0x00]), Ok(Some(0)));
-    assert_eq!(walk(&nine, &[0x00, 0x80]), Ok(None));
+    assert_eq!(walk(&nine, &[0x00, 0x00]), hit(0, 9));
+    assert_eq!(walk(&nine, &[0x00, 0x80]), miss(9));
 }
 
 #[test]
@@ -164,9 +174,81 @@ fn a_distance_does_not_wrap() {
     for columns in [33, 65, 66, 97, 128] {
         let last = format!("{}1", "0".repeat(columns - 1));
         let mut string = vec![0; columns.div_ceil(8)];
-        assert_eq!(walk(&file_of(&[&last]), &string), Ok(Some(0)));
+        assert_eq!(walk(&file_of(&[&last]), &string), hit(0, columns));
         string[0] = 0x80;
-        assert_eq!(walk(&file_of(&[&last]), &string), Ok(None));
+        assert_eq!(walk(&file_of(&[&last]), &string), miss(columns));
+    }
+    // A distance that wraps in 32 or 64 bits would hit here, and use fewer columns than all.
+    for column in [32, 64] {
+        let late = format!("{}1{}", "0".repeat(column), "0".repeat(127 - column));
+        let (zeros, lost) = ([0x00; 16], [&[0x80][..], &[0x00; 15]].concat());
+        assert_eq!(walk(&file_of(&[&late]), &zeros), hit(0, column + 1));
+        assert_eq!(walk(&file_of(&[&late]), &lost), miss(128));
+        assert_eq!(spent(&file_of(&[&late]), &lost.repeat(64)), Ok(64 * 128));
+    }
+}
+
+#[test]
+fn spent_tries_the_strings_after_the_matrix() {
+    // Each refusal of the matrix with the next, and sound strings, short ones, ones with spare bits.
+    for strings in [&[0x00; 64][..], &[], &[0xff; 63], &[0xff; 64]] {
+        assert_eq!(spent(&raw(9, 16, 1, 1, &[]), strings), Err(1));
+        assert_eq!(spent(&raw(9, 16, 0, 1, &[0]), strings), Err(2));
+        assert_eq!(spent(&raw(8, 32, 1, 129, &[0]), strings), Err(3));
+        assert_eq!(spent(&raw(8, 32, 1, 1, &[1]), strings), Err(4));
+        assert_eq!(spent(&raw(10, 32, 2, 2, &[0xc1, 0xc0]), strings), Err(5));
+        assert_eq!(spent(&file_of(&["1", "1", "1"]), strings), Err(6));
+    }
+    let file = file_of(&["10", "01", "01"]);
+    assert_eq!(spent(&file, &[]), Err(13));
+    assert_eq!(spent(&file, &[0x00; 63]), Err(13));
+    assert_eq!(spent(&file, &[0xff; 63]), Err(13));
+    assert_eq!(spent(&file, &[0xff; 64]), Err(5));
+}
+
+#[test]
+fn spent_tries_every_string() {
+    let file = file_of(&["10", "01", "01"]);
+    for lane in 0..64 {
+        let mut strings = [0x00; 65];
+        // What lies after the 64 strings is not tried, and each string counts by itself.
+        (strings[lane], strings[64]) = (0xc0, 0xff);
+        assert_eq!(spent(&file, &strings), Ok(63 + 2));
+        assert_eq!(spent(&file, &strings[..64]), Ok(63 + 2));
+        assert_eq!(spent(&file, &strings[..63]), Err(13));
+        for spare in [0x01, 0x20] {
+            strings[lane] = spare;
+            assert_eq!(spent(&file, &strings), Err(5));
+        }
+    }
+}
+
+#[test]
+fn strings_of_several_bytes_are_spent() {
+    let nine = file_of(&["000000001"]);
+    let mut strings = [0x00; 129];
+    strings[128] = 0xff;
+    assert_eq!(spent(&nine, &strings[..64]), Err(13));
+    assert_eq!(spent(&nine, &strings[..127]), Err(13));
+    assert_eq!(spent(&nine, &strings[..128]), Ok(64 * 9));
+    assert_eq!(spent(&nine, &strings), Ok(64 * 9));
+    // The last bit of a first byte is no spare bit, and those of the second byte are.
+    strings[126] = 0x01;
+    assert_eq!(spent(&nine, &strings), Ok(64 * 9));
+    strings[127] = 0x40;
+    assert_eq!(spent(&nine, &strings), Err(5));
+}
+
+/// The least is one column a string, and the most is all of them.
+#[test]
+fn spent_has_its_least_and_its_most() {
+    for columns in [1, 7, 8, 9, 127, 128] {
+        let first = format!("1{}", "0".repeat(columns - 1));
+        let zeros = vec![0x00; 64 * columns.div_ceil(8)];
+        assert_eq!(spent(&file_of(&[&first]), &zeros), Ok(64));
+        let none = file_of(&[&"0".repeat(columns)]);
+        assert_eq!(spent(&none, &zeros), Ok(64 * columns));
+        assert_eq!(spent(&none, &zeros[1..]), Err(13));
     }
 }
 

@@ -1,5 +1,5 @@
-//! What 01 says of all matrices and programs, tried on all small ones and on random ones of all
-//! sizes.
+//! What 01 and 02 say of all matrices and programs, tried on all small ones and on random ones of
+//! all sizes.
 
 use reference::compiler::{compile, translate};
 use reference::draws::{draw, draw_signed};
@@ -9,11 +9,17 @@ use reference::lent;
 use reference::machine::{resume, start};
 use reference::matrix::{check, decode, read, write, Matrix};
 use reference::natural::Natural;
-use reference::program;
+use reference::program::{self, Operation};
 use reference::random::{self, Random};
 use reference::record::{pack, unpack};
-use reference::walk::{walk, walk_bits};
+use reference::walk::{place_after, spent, used_by_all, walk, walk_bits, Place};
 use reference::weights::build;
+
+/// Rows and columns of at most so many entries.
+fn small_sizes(most: usize) -> impl Iterator<Item = (usize, usize)> {
+    let sizes = (1..=12).flat_map(|rows| (1..=6).map(move |columns| (rows, columns)));
+    sizes.filter(move |(rows, columns)| rows * columns <= most)
+}
 
 /// Every matrix of these sizes, accepted or not.
 fn all_matrices(rows: usize, columns: usize) -> impl Iterator<Item = Matrix> {
@@ -51,7 +57,7 @@ fn counts_are_right(random: &mut Random, matrix: &Matrix) {
     let mut misses = 0u64;
     for bits in all_strings(matrix.columns) {
         let sample = given(random, &program, &bits);
-        assert_eq!(sample, walk_bits(matrix, &bits));
+        assert_eq!(sample, walk_bits(matrix, &bits).row);
         match sample {
             Some(row) => hits[row] += 1,
             None => misses += 1,
@@ -66,8 +72,7 @@ fn counts_are_right(random: &mut Random, matrix: &Matrix) {
 #[test]
 fn all_small_matrices() {
     let mut random = Random::new(10);
-    let sizes = (1..=12).flat_map(|rows| (1..=6).map(move |columns| (rows, columns)));
-    for (rows, columns) in sizes.filter(|(rows, columns)| rows * columns <= 12) {
+    for (rows, columns) in small_sizes(12) {
         for matrix in all_matrices(rows, columns) {
             let total: u32 = (0..rows)
                 .map(|v| {
@@ -96,6 +101,92 @@ fn counts_of_random_matrices() {
         let (rows, columns) = (random.between(1, 40), random.between(1, 7));
         let matrix = random::matrix(&mut random, rows, columns);
         counts_are_right(&mut random, &matrix);
+    }
+}
+
+/// 02, order 1, on one matrix, string by string: a walk uses 1 to n columns, hits in the last of
+/// these or nowhere, and gives the same whatever bits follow. Answers what all walks use together.
+fn uses_are_right(matrix: &Matrix) -> usize {
+    let n = matrix.columns;
+    let mut hits = vec![0; n];
+    let mut all = 0;
+    for bits in all_strings(n) {
+        let walked = walk_bits(matrix, &bits);
+        let (row, used) = (walked.row, walked.used);
+        assert!((1..=n).contains(&used));
+        let before = place_after(matrix, &bits[..used - 1]);
+        assert!(matches!(before, Place::Left(_)));
+        match place_after(matrix, &bits[..used]) {
+            Place::Hit { row: met, column } => {
+                assert_eq!((row, used), (Some(met), column + 1));
+                hits[column] += 1;
+            }
+            Place::Left(_) => assert_eq!((row, used), (None, n)),
+        }
+        for rest in all_strings(n - used) {
+            let other = [&bits[..used], &rest].concat();
+            assert_eq!(walk_bits(matrix, &other), walked);
+        }
+        all += used;
+    }
+    for (c, &hit) in hits.iter().enumerate() {
+        let ones = (0..matrix.rows).filter(|&v| matrix.bit(v, c)).count();
+        assert_eq!(hit, ones << (n - 1 - c));
+    }
+    all
+}
+
+/// The 64 lanes carry each string of up to 6 bits equally often.
+#[test]
+fn columns_used_on_all_small_matrices() {
+    for (rows, columns) in small_sizes(9) {
+        let strings: Vec<u8> = (0..64u8).map(|lane| lane << (8 - columns)).collect();
+        for matrix in all_matrices(rows, columns).filter(Matrix::is_accepted) {
+            let all = uses_are_right(&matrix);
+            assert_eq!(used_by_all(&matrix), Natural::from(all as u64));
+            let total = all << (6 - columns);
+            assert!((64..=64 * columns).contains(&total));
+            assert_eq!(spent(&matrix.encode(), &strings), Ok(total));
+        }
+    }
+}
+
+#[test]
+fn spent_is_the_sum_of_the_walks() {
+    let mut random = Random::new(20);
+    for _ in 0..100 {
+        let matrix = random::any_matrix(&mut random);
+        let (columns, file) = (matrix.columns, matrix.encode());
+        let strings = random::strings(&mut random, &matrix);
+        let each = strings.chunks(columns.div_ceil(8));
+        let total = each.map(|string| walk(&file, string).unwrap().used).sum();
+        assert!((64..=64 * columns).contains(&total));
+        assert_eq!(spent(&file, &strings), Ok(total));
+        let longer = [&strings[..], &[0xff; 3]].concat();
+        assert_eq!(spent(&file, &longer), Ok(total));
+    }
+}
+
+/// 01, "Translation": register 2 is H, the lanes that have hit. A lane that has not when a column's
+/// INPUT comes uses that column.
+#[test]
+fn programs_serve_a_lane_where_its_walk_hits() {
+    let mut random = Random::new(21);
+    for _ in 0..40 {
+        let (rows, columns) = (random.between(1, 20), random.between(1, 30));
+        let matrix = random::matrix(&mut random, rows, columns);
+        let program = translate(&matrix);
+        let file = program.encode();
+        let strings = random::strings(&mut random, &matrix);
+        let words = slice(columns, &strings, columns).unwrap();
+        let mut unserved = 0;
+        for (position, instruction) in (0..).zip(&program.instructions) {
+            if instruction.form.operation == Operation::Input {
+                let run = start(&file, &words, 1_024, 8, position).unwrap();
+                unserved += run.registers[2].count_zeros() as usize;
+            }
+        }
+        assert_eq!(spent(&matrix.encode(), &strings), Ok(unserved));
     }
 }
 
@@ -212,7 +303,7 @@ fn draws_are_walks() {
         assert_eq!(samples(&run.outputs, 64).as_ref(), Ok(&plain));
         assert_eq!(signed_samples(&run.outputs, sign, 64).as_ref(), Ok(&signed));
         for (lane, string) in strings.chunks(columns.div_ceil(8)).enumerate() {
-            let row = walk(&file, string).unwrap();
+            let row = walk(&file, string).unwrap().row;
             assert_eq!(plain[lane], row.map_or(255, |row| row as u8));
             let expected = match row {
                 None => 32_767,
@@ -308,4 +399,30 @@ fn lent_memory_beyond_the_result_is_untouched() {
     let registers = [1, 0, 0, 0, u64::MAX, 0, 0, 0, 0, 0, 9, 9];
     let run = (4, 4, false);
     assert_eq!(start(&program[..114]), (0, registers, [0, 0, 9], run));
+}
+
+/// The numbers that a walk and `spent` answer with are set by a result and kept by a refusal.
+#[test]
+fn lent_numbers_are_untouched_by_a_refusal() {
+    let file = Matrix::from_texts(&["10", "01", "01"]).encode();
+    let walk = |file: &[u8], string: &[u8]| {
+        let (mut row, mut used) = (77, 88);
+        let returned = lent::walk(file, string, &mut row, &mut used);
+        (returned, row, used)
+    };
+    assert_eq!(walk(&file, &[0xc0]), (0, 1, 2));
+    assert_eq!(walk(&file[..10], &[0xc0]), (1, 77, 88));
+    assert_eq!(walk(&file, &[]), (13, 77, 88));
+    assert_eq!(walk(&file, &[0x20]), (5, 77, 88));
+    let missed = Matrix::from_texts(&["100"]).encode();
+    assert_eq!(walk(&missed, &[0x80]), (0, 255, 3));
+
+    let spent = |file: &[u8], strings: &[u8]| {
+        let mut total = 99;
+        (lent::spent(file, strings, &mut total), total)
+    };
+    assert_eq!(spent(&file, &[0xc0; 64]), (0, 128));
+    assert_eq!(spent(&file[..10], &[0xc0; 64]), (1, 99));
+    assert_eq!(spent(&file, &[0xc0; 63]), (13, 99));
+    assert_eq!(spent(&file, &[0x20; 64]), (5, 99));
 }

@@ -1,15 +1,31 @@
-//! 01, "Checked by hand": every case, with the answers that stand there.
+//! 01, "Checked by hand": every case, with the answers that stand there. 02, order 1: the columns
+//! that these walks use, by hand.
 
 use reference::compiler::{compile, translate};
 use reference::listing::lister;
 use reference::machine::{resume, start};
 use reference::matrix::{check, read, write, Matrix};
 use reference::program;
-use reference::walk::walk;
+use reference::refusal::Answer;
+use reference::walk::{spent, walk, Walked};
 use reference::weights::build;
 
 fn file_of(rows: &[&str]) -> Vec<u8> {
     Matrix::from_texts(rows).encode()
+}
+
+fn hit(row: usize, used: usize) -> Answer<Walked> {
+    let row = Some(row);
+    Ok(Walked { row, used })
+}
+
+fn miss(used: usize) -> Answer<Walked> {
+    Ok(Walked { row: None, used })
+}
+
+/// All the strings of so many bits in turn, one a lane.
+fn in_turn(bits: usize) -> Vec<u8> {
+    (0..64u8).map(|lane| lane << (8 - bits)).collect()
 }
 
 fn listed_program() -> Vec<u8> {
@@ -24,18 +40,38 @@ fn three_rows_of_two_columns() {
     let matrix = read(&file, 6).unwrap();
     assert_eq!((matrix.rows, matrix.columns), (3, 2));
     assert_eq!(matrix.entries, [1, 0, 0, 1, 0, 1]);
-    assert_eq!(walk(&file, &[0b0000_0000]), Ok(Some(0)));
-    assert_eq!(walk(&file, &[0b0100_0000]), Ok(Some(0)));
-    assert_eq!(walk(&file, &[0b1000_0000]), Ok(Some(2)));
-    assert_eq!(walk(&file, &[0b1100_0000]), Ok(Some(1)));
+    assert_eq!(walk(&file, &[0b0000_0000]), hit(0, 1));
+    assert_eq!(walk(&file, &[0b0100_0000]), hit(0, 1));
+    assert_eq!(walk(&file, &[0b1000_0000]), hit(2, 2));
+    assert_eq!(walk(&file, &[0b1100_0000]), hit(1, 2));
+    // Each of the four strings 16 times, and one of them 64 times.
+    assert_eq!(spent(&file, &in_turn(2)), Ok(16 * (1 + 1 + 2 + 2)));
+    for (string, used) in [(0x00, 1), (0x40, 1), (0x80, 2), (0xc0, 2)] {
+        assert_eq!(spent(&file, &[string; 64]), Ok(64 * used));
+    }
 }
 
 #[test]
 fn one_row_of_one_column() {
-    assert_eq!(walk(&file_of(&["1"]), &[0x00]), Ok(Some(0)));
-    assert_eq!(walk(&file_of(&["1"]), &[0x80]), Ok(None));
-    assert_eq!(walk(&file_of(&["0"]), &[0x00]), Ok(None));
-    assert_eq!(walk(&file_of(&["0"]), &[0x80]), Ok(None));
+    assert_eq!(walk(&file_of(&["1"]), &[0x00]), hit(0, 1));
+    assert_eq!(walk(&file_of(&["1"]), &[0x80]), miss(1));
+    assert_eq!(walk(&file_of(&["0"]), &[0x00]), miss(1));
+    assert_eq!(walk(&file_of(&["0"]), &[0x80]), miss(1));
+    // Hit or miss, a walk uses the one column.
+    for row in ["1", "0"] {
+        assert_eq!(spent(&file_of(&[row]), &in_turn(1)), Ok(64));
+    }
+}
+
+/// One row 010: strings 00x hit in column 1, all others miss, and these are 6 of 8.
+#[test]
+fn hits_and_misses_are_added_up() {
+    let file = file_of(&["010"]);
+    assert_eq!(walk(&file, &[0b0000_0000]), hit(0, 2));
+    assert_eq!(walk(&file, &[0b0010_0000]), hit(0, 2));
+    assert_eq!(walk(&file, &[0b0100_0000]), miss(3));
+    assert_eq!(walk(&file, &[0b1110_0000]), miss(3));
+    assert_eq!(spent(&file, &in_turn(3)), Ok(16 * 2 + 48 * 3));
 }
 
 #[test]
@@ -55,7 +91,7 @@ fn weights() {
     for signed in [false, true] {
         let thirds = build(&[1, 1, 1], 2, signed, 11).unwrap();
         assert_eq!(thirds, file_of(&["01", "01", "01"]));
-        assert_eq!(walk(&thirds, &[0xc0]), Ok(None));
+        assert_eq!(walk(&thirds, &[0xc0]), miss(2));
         assert_eq!(build(&[5], 3, signed, 9), Ok(file_of(&["111"])));
         assert_eq!(build(&[0, 0], 3, signed, 10), Err(11));
     }

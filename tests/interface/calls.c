@@ -33,11 +33,17 @@ uint32_t through_build(const uint32_t *weights, size_t weights_length, size_t co
 }
 SAME_TYPE(build);
 
-uint32_t through_walk(const uint8_t *file, size_t file_length, const uint8_t *string, size_t string_length, size_t *row)
+uint32_t through_walk(const uint8_t *file, size_t file_length, const uint8_t *string, size_t string_length, size_t *row, size_t *used)
 {
-    return corkhollow_walk(file, file_length, string, string_length, row);
+    return corkhollow_walk(file, file_length, string, string_length, row, used);
 }
 SAME_TYPE(walk);
+
+uint32_t through_spent(const uint8_t *file, size_t file_length, const uint8_t *strings, size_t strings_length, size_t *total)
+{
+    return corkhollow_spent(file, file_length, strings, strings_length, total);
+}
+SAME_TYPE(spent);
 
 uint32_t through_compile(const uint8_t *file, size_t file_length, uint8_t *program, size_t program_length, size_t *length)
 {

@@ -49,8 +49,13 @@ static void draw_signed(const struct batch *b) {
 }
 
 static void walk(const struct batch *b) {
-    size_t row;
-    refused |= corkhollow_walk(matrix, matrix_length, b->strings, CORKHOLLOW_WIDTH(n_columns), &row);
+    size_t row, used;
+    refused |= corkhollow_walk(matrix, matrix_length, b->strings, CORKHOLLOW_WIDTH(n_columns), &row, &used);
+}
+
+static void spent(const struct batch *b) {
+    size_t total;
+    refused |= corkhollow_spent(matrix, matrix_length, b->strings, b->strings_length, &total);
 }
 
 struct operation operations[OPERATIONS] = {
@@ -63,6 +68,7 @@ struct operation operations[OPERATIONS] = {
     {"draw_signed", draw_signed, false, signed_samples, sizeof signed_samples},
     {"slice, spare bits", slice_spare, true, NULL, 0},
     {"walk", walk, true, NULL, 0},
+    {"spent", spent, true, NULL, 0},
 };
 
 bool program_made(size_t columns) {

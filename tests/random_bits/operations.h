@@ -20,7 +20,7 @@ struct operation {
     size_t size;
 };
 
-enum { OPERATIONS = 9 };
+enum { OPERATIONS = 10 };
 extern struct operation operations[OPERATIONS];
 
 /* Makes the program of a table of which few strings miss. Batches and operations are of its columns from then on. */

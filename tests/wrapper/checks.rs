@@ -1,7 +1,7 @@
 //! Every function of include/corkhollow.rs on 01's example, the rows 10, 01, 01, and on one row 1 of one column. What it must answer is
-//! worked out by hand from 01, so that this needs nothing but `core`.
+//! worked out by hand from 01 and 02, so that this needs nothing but `core`.
 
-use crate::corkhollow::{self, Header, Refusal, Run, LANES, MISS, SIGNED_MISS};
+use crate::corkhollow::{self, Header, Refusal, Run, Walk, LANES, MISS, SIGNED_MISS};
 
 /// Says which function answered something else.
 pub type Checked = Result<(), &'static str>;
@@ -12,6 +12,9 @@ const ENTRIES: [u8; 6] = [1, 0, 0, 1, 0, 1];
 
 /// The strings 00 and 01 give 0, 10 gives 2, 11 gives 1.
 const GIVES: [u8; 4] = [0, 0, 2, 1];
+
+/// 02, order 1: 00 and 01 hit in column 0, 10 and 11 in column 1.
+const USES: [usize; 4] = [1, 1, 2, 2];
 
 /// 01, "Translation", with k = 2: registers B, N, H, two of V, three of X, six of Y. Instructions: 4 at the beginning; 6 for column 0, in
 /// which row 0 is set and one place stays open; 8 for column 1, in which rows 2 and 1 are set and none stays open; 3 at the end.
@@ -39,6 +42,7 @@ fn must(name: &'static str, holds: bool) -> Checked {
 pub fn all() -> Checked {
     files()?;
     walks()?;
+    bits_spent()?;
     let mut program = [0; 512];
     let length = corkhollow::compile(&FILE, &mut program).map_err(|_| "compile")?;
     let program = &program[..length];
@@ -50,7 +54,7 @@ pub fn all() -> Checked {
 }
 
 /// A file cut short.
-pub fn a_refusal() -> Result<Option<usize>, Refusal> {
+pub fn a_refusal() -> Result<Walk, Refusal> {
     corkhollow::walk(&FILE[..10], &[0])
 }
 
@@ -68,11 +72,24 @@ fn files() -> Checked {
 }
 
 fn walks() -> Checked {
-    for (string, row) in (0u8..).zip(GIVES) {
-        let walked = corkhollow::walk(&FILE, &[string << 6]);
-        must("walk", walked == Ok(Some(usize::from(row))))?;
+    for string in 0..4 {
+        let walked = corkhollow::walk(&FILE, &[(string as u8) << 6]);
+        let row = Some(usize::from(GIVES[string]));
+        let used = USES[string];
+        must("walk", walked == Ok(Walk { row, used }))?;
     }
-    must("walk", corkhollow::walk(&ROW_1, &[0x80]) == Ok(None))
+    // the miss has used the one column
+    let walked = corkhollow::walk(&ROW_1, &[0x80]);
+    must("walk", walked == Ok(Walk { row: None, used: 1 }))
+}
+
+fn bits_spent() -> Checked {
+    // the four strings in turn use 1 + 1 + 2 + 2, 16 times
+    must("spent", corkhollow::spent(&FILE, &strings(2)) == Ok(96))?;
+    // 32 strings hit in the one column, and 32 miss
+    must("spent", corkhollow::spent(&ROW_1, &strings(1)) == Ok(64))?;
+    let short = corkhollow::spent(&FILE, &strings(2)[1..]);
+    must("spent", short == Err(Refusal(13)))
 }
 
 /// All the strings of so many bits in turn, one a lane.

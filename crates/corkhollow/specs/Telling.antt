@@ -1,13 +1,12 @@
 -- What a call makes of an operation's answer is what its contract says of the operation's outcome. Assumes nothing.
 use Prim.Native.Nat.{ℕ}
-use mathlib.Core.Path.{_≡_}
+use mathlib.Core.Path.{_≡_, refl, _∙_}
 use mathlib.Core.Bool.{Bool}
 use mathlib.Core.List.{List}
 use lib.ListN
 use Rattle.laws.specs.Outcome.{Outcome, refused, gives, mapped}
 use Rattle.files.specs.Matrix.{Matrix, Sizes, sizes}
-use Rattle.walk.specs.Walk.{Answer, answerOf}
-use Rattle.walk.specs.declared.Drawn.{Drawn}
+use Rattle.walk.specs.Walk.{Spending}
 use Rattle.programs.specs.declared.description.Program.{Program}
 use Rattle.machine.specs.declared.runs.Run.{Run}
 use Rattle.checker.specs.Checks.{Code}
@@ -38,6 +37,11 @@ module _ {X A B : Type 0} (say : X → Outcome B) (f : A → B) where
   tells-of part (refused n) old c e a = rw (← c, e) at a
   tells-of part (gives b) old c e a = rw (← c, e) at a
 
+-- where the answer is the whole outcome
+all-of : {A : Type 0} (o : Outcome A) → o ≡ mapped (λ a. a) o
+all-of (refused n) = refl
+all-of (gives a) = refl
+
 -- ---- the functions by what they tell; P and Q are what the operation's contract says of the buffers
 -- a result is laid down, and nothing told
 pub lays : {X A B P : Type 0} (say : X → Outcome B) (f : A → B) (o : Outcome A) {x y : X} {r : ℕ} → x ≡ y → (say x ≡ mapped f o) × P →
@@ -64,11 +68,24 @@ reads say o rows columns c p a s t = (
   tells-of say sizes (λ s. s .columns) o columns c (p .0) t,
 )
 
--- a matrix is walked, and the row told
-pub walks : {X : Type 0} (say : X → Outcome Answer) (o : Outcome Drawn) {x y : X} {r row′ : ℕ} (row : ℕ) → x ≡ y →
-    say x ≡ mapped answerOf o → Returns (say y) r → Tells code (say y) row row′ →
-    (r ≡ returned o) × (row′ ≡ told (λ d. code (answerOf d)) o row)
-walks say o row c e a t = (returns-of say answerOf o c e a, tells-of say answerOf code o row c e t)
+-- a matrix is walked, and the row and the columns used told
+pub walks : {X : Type 0} (say : X → Outcome Spending) (o : Outcome Spending) {x y : X} {r row′ used′ : ℕ} (row used : ℕ) → x ≡ y →
+    say x ≡ o → Returns (say y) r → Tells (λ w. code (w .answer)) (say y) row row′ → Tells (λ w. w .used) (say y) used used′ →
+    (r ≡ returned o) × (row′ ≡ told (λ w. code (w .answer)) o row) × (used′ ≡ told (λ w. w .used) o used)
+walks say o row used c e a t u =
+    let whole : Spending → Spending = λ w. w in
+    let all = e ∙ all-of o in (
+      returns-of say whole o c all a,
+      tells-of say whole (λ w. code (w .answer)) o row c all t,
+      tells-of say whole (λ w. w .used) o used c all u,
+    )
+
+-- a matrix is walked on 64 strings, and the total told
+pub totals : {X : Type 0} (say : X → Outcome ℕ) (o : Outcome ℕ) {x y : X} {r total′ : ℕ} (total : ℕ) → x ≡ y → say x ≡ o →
+    Returns (say y) r → Tells (λ n. n) (say y) total total′ → (r ≡ returned o) × (total′ ≡ told (λ n. n) o total)
+totals say o total c e a t =
+    let whole : ℕ → ℕ = λ n. n in
+    (returns-of say whole o c (e ∙ all-of o) a, tells-of say whole whole o total c (e ∙ all-of o) t)
 
 -- a program is checked, and its header told
 pub checks : {X : Type 0} (say : X → Outcome Program) (o : Outcome Code) {x y : X} {r registers′ inputs′ outputs′ count′ : ℕ}

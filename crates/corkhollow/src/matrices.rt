@@ -6,13 +6,15 @@ ghost use Rattle.laws.specs.Lay.{lay};
 ghost use Rattle.laws.specs.Outcome.{laid};
 ghost use Rattle.files.specs.Files.{readOf, writeOf};
 ghost use Rattle.weights.specs.Weights.{buildOf};
-ghost use Rattle.walk.specs.Walk.{answerOf, walkOf};
+ghost use Rattle.walk.specs.Walk.{walkOf};
 ghost use Rattle.lanes.specs.Samples.{code};
+ghost use Rattle.spent.specs.Spent.{spentOf};
 ghost use Rattle.corkhollow.specs.Calls.{returned, told, usageOf};
 use fields::Written;
 use fields::number;
 use files::Checked;
 use lanes::MISS;
+use spent::Total;
 use walk::Walked;
 use weights::Usage;
 
@@ -102,23 +104,49 @@ pub extern "C" fn corkhollow_build(
     }
 }
 
-// Walks a matrix file on a packed string: the row that is hit, or 255 for a miss.
+// Walks a matrix file on a packed string: the row that is hit, or 255 for a miss, and the columns used.
 #[no_mangle]
-pub extern "C" fn corkhollow_walk(file: &[u8], string: &[u8], row: &mut usize) -> u32
+pub extern "C" fn corkhollow_walk(
+    file: &[u8],
+    string: &[u8],
+    row: &mut usize,
+    used: &mut usize,
+) -> u32
     ensures { λ r. ⌜ (
         let o = walkOf (now (file .entry)) (now (string .entry)) in
         (r ≡ returned o) ×
-        (now (row .exit) ≡ told (λ x. code (answerOf x)) o (now (row .entry)))
+        (now (row .exit) ≡ told (λ w. code (w .answer)) o (now (row .entry))) ×
+        (now (used .exit) ≡ told (λ w. w .used) o (now (used .entry)))
         ) ⌝ }
 {
     match walk::walk(file, string) {
         Walked::Refused(why) => number(why),
-        Walked::Hit(v) => {
+        Walked::Hit { row: v, used: n } => {
             *row = v;
+            *used = n;
             0
         }
-        Walked::Miss => {
+        Walked::Miss { used: n } => {
             *row = MISS as usize;
+            *used = n;
+            0
+        }
+    }
+}
+
+// Walks a matrix file on 64 packed strings, and tells the columns used together.
+#[no_mangle]
+pub extern "C" fn corkhollow_spent(file: &[u8], strings: &[u8], total: &mut usize) -> u32
+    ensures { λ r. ⌜ (
+        let o = spentOf (now (file .entry)) (now (strings .entry)) in
+        (r ≡ returned o) ×
+        (now (total .exit) ≡ told (λ n. n) o (now (total .entry)))
+        ) ⌝ }
+{
+    match spent::spent(file, strings) {
+        Total::Refused(why) => number(why),
+        Total::Columns(n) => {
+            *total = n;
             0
         }
     }

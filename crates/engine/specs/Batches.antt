@@ -19,11 +19,11 @@ use Rattle.fields.specs.Strings.{stringsOf}
 use Rattle.files.specs.RoundTrip.{read-accepted}
 use Rattle.machine.specs.Runs.{startOf}
 use Rattle.walk.specs.Walk.{Answer, drawn, answerOf, walkOf}
-use Rattle.walk.specs.Theorems.{walk-is}
-use Rattle.lanes.specs.Slicing.{lanes, stringAt, wordOf}
+use Rattle.lanes.specs.Slicing.{lanes, stringAt, stringBits, wordOf}
 use Rattle.programs.specs.Limits.{most-outputs}
 use Rattle.lanes.specs.Samples.{sampleOf, code, signedCode, eachLane, samplesOf, signedSamplesOf, lanes-give}
-use Rattle.lanes.specs.Lanes.{lane-of-word, word-lt, string-bit, string-sound}
+use Rattle.lanes.specs.Lanes.{lane-of-word, word-lt}
+use Rattle.spent.specs.Theorems.{string-walked}
 use Rattle.compiler.specs.Translation.{program, compiled}
 use Rattle.compiler.specs.Width.{few-bits}
 use Rattle.engine.specs.Given.{Choice, Fair, given}
@@ -33,10 +33,7 @@ use Rattle.engine.specs.Lanewise.{Starts, starts, lane-draws}
 abbrev pub slicedWords : ℕ → List ℕ → List ℕ
 slicedWords n strings = upto n (wordOf strings (width n))
 
--- the bits of string j of 64, and what it gives: the walk's row, or a miss
-abbrev pub stringBits : ℕ → List ℕ → ℕ → List ℕ
-stringBits n strings j = upto n (bitOf strings (j * width n))
-
+-- what string j of 64 gives: the walk's row, or a miss
 abbrev pub drawnAt : Matrix → List ℕ → ℕ → Answer
 drawnAt M strings j = answerOf (drawn M (stringBits (M .columns) strings j))
 
@@ -56,12 +53,8 @@ lane-string n strings j i h l =
 module _ (file : List ℕ) (M : Matrix) (e : matrixOf file ≡ gives M) (strings : List ℕ) where
   -- what a string gives is what walking the file on it, packed by itself, comes to
   pub string-drawn : stringsOf lanes (M .columns) strings ≡ gives tt → (j : ℕ) → j < lanes →
-      mapped answerOf (walkOf file (stringAt (M .columns) strings j)) ≡ gives (drawnAt M strings j)
-  string-drawn s j h =
-      ap (mapped answerOf) (walk-is file M e (stringAt (M .columns) strings j) (string-sound (M .columns) strings j h s)) ∙
-      ap (λ (l : List ℕ). gives (answerOf (drawn M l)))
-      (upto-eq (M .columns) (bitOf (stringAt (M .columns) strings j) 0) (bitOf strings (j * width (M .columns)))
-      (λ i l. string-bit (M .columns) strings j i (omega arith)))
+      mapped (λ w. w .answer) (walkOf file (stringAt (M .columns) strings j)) ≡ gives (drawnAt M strings j)
+  string-drawn s j h = ap (mapped (λ w. w .answer)) (string-walked file M e strings s j h)
 
   module _ (registers outputs : List ℕ) (budget room : ℕ) (r : program M .registers ≤ length registers)
       (o : program M .outputs ≤ length outputs) (enough : program M .count ≤ budget) (space : lanes ≤ room) where

@@ -29,9 +29,7 @@ use Rattle.machine.specs.Runs.{startOf, startOn, runOf}
 use Rattle.machine.specs.declared.runs.Run.{Run}
 use Rattle.compiler.specs.Translation.{bitsToWrite, rowBits, ifSet, marks, liveBefore, column}
 use Rattle.compiler.specs.Translation.{translation, program, compiled, compileOf}
-use Rattle.walk.specs.Walk.{at, scan, then, walk, drawn, walkOf}
-use Rattle.walk.specs.declared.Drawn.{Drawn}
-use Rattle.walk.specs.declared.Drawn.the-variants.{Hit as hit, Miss as miss}
+use Rattle.walk.specs.Walk.{at, scan, then, walk, drawn, used, Answer, sample, missed, Spending, walkOf}
 use Rattle.weights.specs.declared.building.Usage.{Usage}
 use Rattle.weights.specs.declared.building.Usage.the-variants.{Plain}
 
@@ -43,7 +41,7 @@ pub data Operation : Type 0 where
   reads : List ℕ → Operation
   -- weights and columns, to the entries of what is built
   builds : Usage → List ℕ → ℕ → Operation
-  -- a file and a packed string, to the row that the walk hits, or none
+  -- a file and a packed string, to the row that the walk hits, if any, and the columns that it has used
   walks : List ℕ → List ℕ → Operation
   -- the walk of what is built from weights and columns, on a packed string
   builds-walks : Usage → List ℕ → ℕ → List ℕ → Operation
@@ -90,13 +88,13 @@ cases =
     (writes 3 2 (1 ∷ 0 ∷ 0 ∷ 1 ∷ 0 ∷ 1 ∷ []) ⇒ gives three-rows)
     ∷ (reads three-rows ⇒ gives (1 ∷ 0 ∷ 0 ∷ 1 ∷ 0 ∷ 1 ∷ []))
     -- strings 00 and 01 give 0, 10 gives 2, 11 gives 1
-    ∷ (walks three-rows (0x00 ∷ []) ⇒ gives (0 ∷ []))
-    ∷ (walks three-rows (0x40 ∷ []) ⇒ gives (0 ∷ []))
-    ∷ (walks three-rows (0x80 ∷ []) ⇒ gives (2 ∷ []))
-    ∷ (walks three-rows (0xc0 ∷ []) ⇒ gives (1 ∷ []))
+    ∷ (walks three-rows (0x00 ∷ []) ⇒ gives (0 ∷ 1 ∷ []))
+    ∷ (walks three-rows (0x40 ∷ []) ⇒ gives (0 ∷ 1 ∷ []))
+    ∷ (walks three-rows (0x80 ∷ []) ⇒ gives (2 ∷ 2 ∷ []))
+    ∷ (walks three-rows (0xc0 ∷ []) ⇒ gives (1 ∷ 2 ∷ []))
     -- one row 1, one column: string 0 gives 0, string 1 misses
-    ∷ (walks one-row (0x00 ∷ []) ⇒ gives (0 ∷ []))
-    ∷ (walks one-row (0x80 ∷ []) ⇒ gives [])
+    ∷ (walks one-row (0x00 ∷ []) ⇒ gives (0 ∷ 1 ∷ []))
+    ∷ (walks one-row (0x80 ∷ []) ⇒ gives (1 ∷ []))
     -- the listing of rows 1, 1 of one column
     ∷ (compiles two-rows ⇒ gives (programFile listed listing))
     -- that program with budget 12 finishes, with 11 it stops at 11
@@ -108,17 +106,20 @@ cases =
     -- weights 1, 1, 1 with n = 2: rows 01, 01, 01
     ∷ (builds Plain (1 ∷ 1 ∷ 1 ∷ []) 2 ⇒ gives (0 ∷ 1 ∷ 0 ∷ 1 ∷ 0 ∷ 1 ∷ []))
     -- and 11 misses
-    ∷ (builds-walks Plain (1 ∷ 1 ∷ 1 ∷ []) 2 (0xc0 ∷ []) ⇒ gives [])
+    ∷ (builds-walks Plain (1 ∷ 1 ∷ 1 ∷ []) 2 (0xc0 ∷ []) ⇒ gives (2 ∷ []))
     -- weight 5 alone, n = 3: row 111
     ∷ (builds Plain (5 ∷ []) 3 ⇒ gives (1 ∷ 1 ∷ 1 ∷ []))
     -- weights 0, 0: refusal 11
     ∷ (builds Plain (0 ∷ 0 ∷ []) 1 ⇒ refused 11)
     ∷ []
 
--- the row of a walk, or none
-rowOf : Drawn → List ℕ
-rowOf (hit v c) = v ∷ []
-rowOf miss = []
+-- the row of a walk, if any, and the columns that it has used
+toldOf : Spending → List ℕ
+toldOf w = row (w .answer)
+  where
+    row : Answer → List ℕ
+    row (sample v) = v ∷ w .used ∷ []
+    row missed = w .used ∷ []
 
 -- a run's answer in numbers
 numbersOf : Run → List ℕ
@@ -130,9 +131,9 @@ comes (writes m n entries) = writeOf m n entries (fileLength m n)
 comes (reads file) = mapped (λ M. M .entries) (readOf file 16384)
 comes (builds usage weights n) =
     buildOf usage weights n (fileLength (length weights) n) >>= λ file. mapped (λ M. M .entries) (matrixOf file)
-comes (walks file string) = mapped rowOf (walkOf file string)
+comes (walks file string) = mapped toldOf (walkOf file string)
 comes (builds-walks usage weights n string) =
-    buildOf usage weights n (fileLength (length weights) n) >>= λ file. mapped rowOf (walkOf file string)
+    buildOf usage weights n (fileLength (length weights) n) >>= λ file. mapped toldOf (walkOf file string)
 comes (compiles file) = compileOf file 1024
 comes (starts file budget) =
     compileOf file 1024 >>= λ program. mapped (λ e. numbersOf (e .answer)) (startOf program (0 ∷ []) (replicate 10 0) (0 ∷ 0 ∷ []) budget)
@@ -170,9 +171,9 @@ all-come (c ∷ cs) e =
 
 -- ---- the table holds
 pub cases-hold : All-come cases
-unfolding three-rows too-much one-row two-rows listed listing cases comes all-agree agrees same rowOf numbersOf sumTo any number digit
+unfolding three-rows too-much one-row two-rows listed listing cases comes all-agree agrees same toldOf numbersOf sumTo any number digit
     blocks upto fieldOf packedBit padded packed spare bit p total ones-in headerBytes matrixFile headerOf unpacked bodyOf matrixOf readOf
-    writeOf sum share built buildOf stringsOf at scan then walk drawn walkOf recordBytes instructionBytes decodeOf sizedOf codeBytes
+    writeOf sum share built buildOf stringsOf at scan then walk drawn used walkOf recordBytes instructionBytes decodeOf sizedOf codeBytes
     programFile programHeaderOf programHeader programNumbers exec checkOf codeOf instructionOf also startOn runOf bitsToWrite rowBits
     ifSet marks liveBefore column translation program compiled compileOf
 cases-hold = all-come cases refl

@@ -23,6 +23,10 @@ lanes = 64
 unfoldable pub stringAt : ℕ → List ℕ → ℕ → List ℕ
 stringAt n strings j = take (width n) (drop (j * width n) strings)
 
+-- and its bits
+abbrev pub stringBits : ℕ → List ℕ → ℕ → List ℕ
+stringBits n strings j = upto n (bitOf strings (j * width n))
+
 -- word i of 64 strings of w bytes each: bit j is bit i of string j
 unfoldable pub wordOf : List ℕ → ℕ → ℕ → ℕ
 wordOf strings w i = pack lanes (λ j. bitOf strings (j * w) i)

@@ -1,5 +1,6 @@
-// The reference's vectors of matrix files and their programs: reading, writing, building, walking and compiling. Standard input has a
-// case a line, and for each an answer is printed; both are made by the reference (reference/README.md).
+// The reference's vectors of matrix files and their programs: reading, writing, building, walking, adding up what walks
+// use, and compiling. Standard input has a case a line, and for each an answer is printed; both are made by the reference
+// (reference/README.md).
 mod compiled;
 mod matrices;
 
@@ -20,6 +21,7 @@ fn run_case(line: &[u8], program: &mut [u8]) {
         0x3 => matrices::build_case(line),
         0x4 => matrices::walk_case(line),
         0x5 => compiled::compile_case(line, program),
+        0xe => matrices::spent_case(line),
         0x10 => matrices::rewrite_case(line),
         _ => {}
     }

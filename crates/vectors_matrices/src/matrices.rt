@@ -14,6 +14,7 @@ use case_lines::parsing::take_bytes;
 use case_lines::parsing::take_shorts;
 use fields::Written;
 use files::Checked;
+use spent::Total;
 use walk::Walked;
 use weights::Usage;
 
@@ -90,13 +91,15 @@ pub(crate) fn build_case(line: &[u8]) {
 fn print_walked(answer: Walked) {
     match answer {
         Walked::Refused(why) => refuse(why),
-        Walked::Hit(row) => {
+        Walked::Hit { row, used } => {
             begin();
             print_size(row);
+            print_size(used);
         }
-        Walked::Miss => {
+        Walked::Miss { used } => {
             begin();
             print_size(255);
+            print_size(used);
         }
     }
 }
@@ -108,6 +111,25 @@ pub(crate) fn walk_case(line: &[u8]) {
     let mut string = [0u8; BYTES];
     let s = take_bytes(field(line, 2), &mut string);
     print_walked(walk::walk(&file[..n], &string[..s]));
+}
+
+fn print_spent(answer: Total) {
+    match answer {
+        Total::Refused(why) => refuse(why),
+        Total::Columns(total) => {
+            begin();
+            print_size(total);
+        }
+    }
+}
+
+// FILE STRINGS
+pub(crate) fn spent_case(line: &[u8]) {
+    let mut file = [0u8; BYTES];
+    let n = take_bytes(field(line, 1), &mut file);
+    let mut strings = [0u8; BYTES];
+    let s = take_bytes(field(line, 2), &mut strings);
+    print_spent(spent::spent(&file[..n], &strings[..s]));
 }
 
 // FILE, which is read; what was read is written

@@ -2,6 +2,7 @@
 pub mod Walk
 pub mod Strings
 pub mod Steps
+pub mod Used
 pub mod Turns
 pub mod Ways
 pub mod Packed

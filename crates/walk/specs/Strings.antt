@@ -104,9 +104,10 @@ strings-once (suc n) (suc zero ∷ s) b =
     over-strings n (λ t. one-if (same (1 ∷ s) t)) ∙ omega (arith, over-same 0 (strings n), strings-once n s (bits-rest 1 n s b))
 strings-once (suc n) (suc (suc x) ∷ s) b = absurd (omega (arith, b .each 0 (omega arith)))
 
--- tests that agree on the strings of n bits pass as many of them
+-- what agrees on the strings of n bits has one sum over them, and tests that agree pass as many
+pub over-bits : (n : ℕ) (f g : List ℕ → ℕ) → ((s : List ℕ) → Bits n s → f s ≡ g s) → over (strings n) f ≡ over (strings n) g
+over-bits n f g e = over-eq f g (strings n) (each-more (Bits n) (λ s. f s ≡ g s) (strings n) e (strings-bits n))
+
 pub count-eq : (n : ℕ) (f g : List ℕ → Bool) → ((s : List ℕ) → Bits n s → f s ≡ g s) → count f (strings n) ≡ count g (strings n)
 unfolding count
-count-eq n f g e =
-    over-eq (λ s. one-if (f s)) (λ s. one-if (g s)) (strings n)
-    (each-more (Bits n) (λ s. one-if (f s) ≡ one-if (g s)) (strings n) (λ s b. ap one-if (e s b)) (strings-bits n))
+count-eq n f g e = over-bits n (λ s. one-if (f s)) (λ s. one-if (g s)) (λ s b. ap one-if (e s b))

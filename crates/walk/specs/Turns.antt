@@ -1,11 +1,13 @@
 -- The turns of the walk's loops, each over plain variables: what is left from here on is what the whole walk draws. Assumes nothing.
 use Prim.Native.Nat.{ℕ, suc, _+_, _-_, _*_, _^_, _≤_, _<_}
 use mathlib.Core.Path.{_≡_, sym, _∙_}
+use mathlib.Core.List.{List}
 use native.Mathlib.Nat.{sub-zero, mul-le-mul}
 use native.Mathlib.Numerals.{add-one}
 use native.Mathlib.Omega.{arith}
-use Rattle.laws.specs.Lists.{upto, from, upto-from}
-use Rattle.walk.specs.Walk.{Drawn, hit, miss, Place, at, scan, then, walk}
+use Rattle.laws.specs.Lists.{from, upto-from}
+use Rattle.fields.specs.Fields.{bitOf, fieldOf}
+use Rattle.walk.specs.Walk.{Drawn, hit, miss, Place, at, scan, then, walk, fileRows, drawAt}
 use Rattle.walk.specs.Steps.{at-pass, at-hit, at-near, scan-none, scan-turn, far}
 
 module _ (bit : ℕ → ℕ → ℕ) (string : ℕ → ℕ) (m n : ℕ) where
@@ -70,10 +72,15 @@ module _ (bit : ℕ → ℕ → ℕ) (string : ℕ → ℕ) (m n : ℕ) (w : Dra
   unfolding Left
   over c d h l = sym (rest-over bit string m n c d h) ∙ l
 
-pub start : (bit : ℕ → ℕ → ℕ) (string : ℕ → ℕ) (m n : ℕ) → Left bit string m n (walk bit m 0 0 (upto n string)) 0 0
-unfolding Left rest
-start bit string m n = rw (sub-zero n, upto-from n string)
+-- before the first column, with the sizes that the file's fields say
+pub start : (file strings : List ℕ) (place m n : ℕ) → m ≡ fieldOf file 4 → n ≡ fieldOf file 6 →
+    Left (fileRows file n) (bitOf strings place) m n (drawAt file strings place) 0 0
+unfolding Left rest drawAt
+start file strings place m n a b = rw (← a, ← b, sub-zero n, upto-from n (bitOf strings place))
 
--- where a row begins
-pub place-fits : (v w : ℕ) → v ≤ 65535 → w ≤ 8192 → v * w < 2 ^ 64
+-- where a row begins, counted from the first and from the file's first byte
+pub row-fits : (v w : ℕ) → v ≤ 65535 → w ≤ 8192 → v * w < 2 ^ 64
+row-fits v w a b = omega (arith, mul-le-mul a b)
+
+pub place-fits : (v w : ℕ) → v ≤ 65535 → w ≤ 8192 → 8 + v * w < 2 ^ 64
 place-fits v w a b = omega (arith, mul-le-mul a b)

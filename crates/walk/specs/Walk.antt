@@ -1,11 +1,12 @@
--- 01, "Matrix and walk": the walk on a string of bits, and what walking a matrix file comes to. Assumes nothing.
+-- 01, "Matrix and walk", and 02, order 1: the walk on a string of bits, the columns that it has used, and what walking a matrix file
+-- comes to. Assumes nothing.
 use Prim.Native.Nat.{ℕ, zero, suc, _+_, _*_}
 use mathlib.Core.Bool.{Bool, true, false}
 use mathlib.Core.List.{List, [], _∷_}
 use lib.Dec.{eqb}
 use Rattle.laws.specs.Lists.{upto}
 use Rattle.laws.specs.Outcome.{Outcome, refused, gives, _>>_, _>>=_}
-use Rattle.fields.specs.Fields.{bitOf}
+use Rattle.fields.specs.Fields.{bitOf, fieldOf, width}
 use Rattle.files.specs.Matrix.{Matrix, bit}
 use Rattle.files.specs.Files.{matrixOf}
 use Rattle.fields.specs.Refusal.{numberOf}
@@ -46,14 +47,12 @@ walk bit m c d (b ∷ bs) = then c (scan (λ v. bit v c) m (2 * d + b)) (λ e. w
 unfoldable pub drawn : Matrix → List ℕ → Drawn
 drawn M string = walk (bit M) (M .rows) 0 0 string
 
--- walking a matrix file on a packed string: the matrix's checks, then the string's, then the walk on its first n bits
-unfoldable pub walkOf : List ℕ → List ℕ → Outcome Drawn
-walkOf file string = do
-  M ← matrixOf file
-  stringsOf 1 (M .columns) string
-  gives (drawn M (upto (M .columns) (bitOf string 0)))
+-- the columns that a walk of n columns has used: a hit in column c has used c + 1, a miss all n (02, order 1)
+unfoldable pub used : ℕ → Drawn → ℕ
+used n (hit v c) = c + 1
+used n miss = n
 
--- what is told of a walk: the row that it hits, as the sample, or a miss
+-- what a walk answers: the row that it hits, as the sample, or a miss
 pub data Answer : Type 0 where
   sample : ℕ → Answer
   missed : Answer
@@ -62,17 +61,48 @@ abbrev pub answerOf : Drawn → Answer
 answerOf (hit v c) = sample v
 answerOf miss = missed
 
+-- what is told of a walk of n columns: its answer, and the columns that it has used
+pub record Spending : Type 0 where
+  pub answer : Answer
+  pub used : ℕ
+
+abbrev pub spendingOf : ℕ → Drawn → Spending
+spendingOf n d = record { answer = answerOf d; used = used n d }
+
+-- walking a matrix file on a packed string: the matrix's checks, then the string's, then the walk on its first n bits
+unfoldable pub walkOf : List ℕ → List ℕ → Outcome Spending
+walkOf file string = do
+  M ← matrixOf file
+  stringsOf 1 (M .columns) string
+  gives (spendingOf (M .columns) (drawn M (upto (M .columns) (bitOf string 0))))
+
+-- the rows of n bits that are packed behind a file's header
+abbrev pub fileRows : List ℕ → ℕ → ℕ → ℕ → ℕ
+fileRows file n v = bitOf file (8 + v * width n)
+
+-- the walk of these rows, as many and as long as the file's fields say, on the bits from byte `at` on: where the file has a matrix it is
+-- the walk of that matrix (`drawAt-is`, walk/Ways)
+unfoldable pub drawAt : List ℕ → List ℕ → ℕ → Drawn
+drawAt file strings at = walk (fileRows file (fieldOf file 6)) (fieldOf file 4) 0 0 (upto (fieldOf file 6) (bitOf strings at))
+
+-- whether an answer is row v, and whether it is a miss
+abbrev pub isRow : ℕ → Answer → Bool
+isRow v (sample u) = eqb u v
+isRow v missed = false
+
+abbrev pub isMiss : Answer → Bool
+isMiss (sample v) = false
+isMiss missed = true
+
 -- whether a walk hits row v, and whether it misses
 unfoldable pub hits : ℕ → Drawn → Bool
-hits v (hit u c) = eqb u v
-hits v miss = false
+hits v d = isRow v (answerOf d)
 
 unfoldable pub misses : Drawn → Bool
-misses (hit v c) = false
-misses miss = true
+misses d = isMiss (answerOf d)
 
 -- ---- the answer's cases in 01's numbers and values
-abbrev pub walked : Walked → Outcome Answer
+abbrev pub walked : Walked → Outcome Spending
 walked (Walked.Refused why) = refused (numberOf why)
-walked (Walked.Hit v) = gives (sample v)
-walked Walked.Miss = gives missed
+walked (Walked.Hit v u) = gives (record { answer = sample v; used = u })
+walked (Walked.Miss u) = gives (record { answer = missed; used = u })

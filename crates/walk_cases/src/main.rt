@@ -3,7 +3,8 @@
 //
 //     # TEXT   is printed as it stands
 //     m HEX    the matrix file that the lines after it are about
-//     s HEX    a packed string: it is printed, then the row that the walk hits, `miss`, or `refused` and the number
+//     s HEX    a packed string: it is printed, then the row that the walk hits or `miss`, and the columns used; or `refused` and the number
+//     u HEX    64 packed strings, one after another: the columns that the walks on them have used together, or `refused` and the number
 //     t        T, the sum of the matrix's rows, in hexadecimal: where it is 2^n, no string misses (`file-misses`, walk/Theorems)
 //     h HEX    the highest row with a 1 in the first HEX columns: no string hits a row above it within them (`file-set`, walk/Theorems)
 ghost use Rattle.io.specs.Counts.{Counts};
@@ -18,23 +19,30 @@ use case_lines::lines::text;
 use case_lines::parsing::least;
 use case_lines::parsing::size;
 use case_lines::parsing::take_bytes;
+use fields::Refusal;
 use libc::STDOUT_FILENO;
 use rows::highest;
 use rows::print_total;
+use spent::Total;
 use walk::Walked;
 
+fn print_refusal(why: Refusal) {
+    io::write_all(STDOUT_FILENO, b"refused ");
+    io::print_decimal(STDOUT_FILENO, fields::number(why) as u64);
+}
+
 fn print_walked(answer: Walked) {
+    io::write_all(STDOUT_FILENO, b" ");
     match answer {
-        Walked::Refused(why) => {
-            io::write_all(STDOUT_FILENO, b" refused ");
-            io::print_decimal(STDOUT_FILENO, fields::number(why) as u64);
-        }
-        Walked::Hit(row) => {
-            io::write_all(STDOUT_FILENO, b" ");
+        Walked::Refused(why) => print_refusal(why),
+        Walked::Hit { row, used } => {
             io::print_decimal(STDOUT_FILENO, row as u64);
+            io::write_all(STDOUT_FILENO, b" ");
+            io::print_decimal(STDOUT_FILENO, used as u64);
         }
-        Walked::Miss => {
-            io::write_all(STDOUT_FILENO, b" miss");
+        Walked::Miss { used } => {
+            io::write_all(STDOUT_FILENO, b"miss ");
+            io::print_decimal(STDOUT_FILENO, used as u64);
         }
     }
     io::write_all(STDOUT_FILENO, b"\n");
@@ -46,6 +54,23 @@ fn string_line(text: &[u8], file: &[u8]) {
     let n = take_bytes(text, &mut string);
     io::write_all(STDOUT_FILENO, text);
     print_walked(walk::walk(file, &string[..n]));
+}
+
+fn print_spent(answer: Total) {
+    match answer {
+        Total::Refused(why) => print_refusal(why),
+        Total::Columns(total) => {
+            io::print_decimal(STDOUT_FILENO, total as u64);
+        }
+    }
+    io::write_all(STDOUT_FILENO, b"\n");
+}
+
+// The line of 64 strings.
+fn strings_line(text: &[u8], file: &[u8]) {
+    let mut strings = [0u8; 1024];
+    let n = take_bytes(text, &mut strings);
+    print_spent(spent::spent(file, &strings[..n]));
 }
 
 // The line of the highest row in some columns.
@@ -65,6 +90,7 @@ fn reading_line(kind: u8, text: &[u8], file: &[u8]) {
     match kind {
         b'#' => print_note(text),
         b's' => string_line(text, file),
+        b'u' => strings_line(text, file),
         b't' => print_total(file),
         b'h' => highest_line(text, file),
         _ => {}

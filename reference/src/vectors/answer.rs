@@ -9,7 +9,7 @@ use crate::machine::{resume, start, Run};
 use crate::matrix::{read, write};
 use crate::program::check;
 use crate::refusal::Answer;
-use crate::walk::walk;
+use crate::walk::{spent, walk};
 use crate::weights::build;
 
 /// What stands right of the sign `=` for what stands left of it.
@@ -47,8 +47,10 @@ fn carry_out(task: Task, fields: &mut Fields) -> Result<Answer<Line>, Malformed>
                 fields.size()?,
             ))
         }
-        Task::Walk => walk(&fields.bytes()?, &fields.bytes()?)
-            .map(|hit| done().size(hit.unwrap_or(usize::from(MISS)))),
+        Task::Walk => walk(&fields.bytes()?, &fields.bytes()?).map(|walked| {
+            let row = walked.row.unwrap_or(usize::from(MISS));
+            done().size(row).size(walked.used)
+        }),
         Task::Compile => file(compile(&fields.bytes()?, fields.size()?)),
         Task::Check => checked(&fields.bytes()?),
         Task::Start => {
@@ -82,6 +84,7 @@ fn carry_out(task: Task, fields: &mut Fields) -> Result<Answer<Line>, Malformed>
             draw_signed(&program, &strings, fields.number()?, fields.size()?)
                 .map(|laid| done().result(&laid))
         }
+        Task::Spent => spent(&fields.bytes()?, &fields.bytes()?).map(|total| done().size(total)),
         Task::Rewrite => rewritten(&fields.bytes()?),
         Task::Draws => drawn(&fields.bytes()?, &fields.bytes()?, fields.number()?),
         Task::Stops => {
@@ -215,14 +218,18 @@ mod tests {
             answer("2 3 2 010000010001 b").unwrap(),
             format!("0 b {file}")
         );
-        assert_eq!(answer(&format!("4 {file} 80")).unwrap(), "0 2");
+        assert_eq!(answer(&format!("4 {file} 80")).unwrap(), "0 2 2");
         assert_eq!(
             answer("4 0900200001000100 80 80").unwrap_err().0,
             "one field too many: 80"
         );
-        assert_eq!(answer("4 090020000100010080 80").unwrap(), "0 ff");
+        assert_eq!(answer("4 090020000100010080 80").unwrap(), "0 ff 1");
+        // 64 strings 10, of which each uses both columns, and one less.
+        let strings = "80".repeat(64);
+        assert_eq!(answer(&format!("e {file} {strings}")).unwrap(), "0 80");
+        assert_eq!(answer(&format!("e {file} {}", &strings[2..])).unwrap(), "d");
         assert_eq!(answer("1 - 0").unwrap(), "1");
-        assert!(answer("e 00").is_err());
+        assert!(answer("f 00").is_err());
         assert!(answer("1 0").is_err());
     }
 }

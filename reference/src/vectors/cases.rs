@@ -79,6 +79,10 @@ pub fn draw_signed(program: &[u8], strings: &[u8], sign: u64, samples_lent: usiz
     line.array(strings).number(sign).size(samples_lent)
 }
 
+pub fn spent(file: &[u8], strings: &[u8]) -> Line {
+    Line::new(Task::Spent).array(file).array(strings)
+}
+
 /// A matrix file is read, and what was read is written.
 pub fn rewrite(file: &[u8]) -> Line {
     Line::new(Task::Rewrite).array(file)

@@ -1,7 +1,8 @@
 //! Damaged files: every length, every field, every bit of small files, and two faults at once.
 
-use super::cases::{check, compile, draw, draw_signed, read, resume, rewrite, start, walk};
+use super::cases::{check, compile, draw, draw_signed, read, resume, rewrite, spent, start, walk};
 use super::line::Line;
+use super::sound::around;
 use crate::compiler::translate;
 use crate::damage::{
     cuts, edited, instruction_edits, matrix_edits, program_edits, program_header_edits,
@@ -32,6 +33,11 @@ pub fn fixed(put: &mut dyn FnMut(Line)) {
         |file| read(file, 0),
         put,
     );
+    // Each with the next, and strings that are too short and have spare bits set.
+    for pair in of_matrix.windows(2) {
+        let damaged = edited(&edited(&small, &pair[0]), &pair[1]);
+        put(spent(&damaged, &[0xff; 63]));
+    }
     let of_program = program_faults(&least);
     faults(&least, &of_program, all_uses_of_program, check, put);
     program_rules(put);
@@ -91,6 +97,7 @@ fn program_faults(file: &[u8]) -> Vec<Vec<Edit>> {
 fn all_uses_of_matrix(file: &[u8], put: &mut dyn FnMut(Line)) {
     put(read(file, 0));
     put(walk(file, &[]));
+    put(spent(file, &[]));
     put(compile(file, 0));
     put(rewrite(file));
 }
@@ -113,6 +120,7 @@ pub fn thorough(put: &mut dyn FnMut(Line)) {
             let damaged = edited(&file, &[edit]);
             put(read(&damaged, 22));
             put(walk(&damaged, &[0x7f, 0xff]));
+            put(spent(&damaged, &[0x40; 128]));
             put(compile(&damaged, 0));
         }
     }
@@ -209,6 +217,28 @@ pub fn round(random: &mut Random, put: &mut dyn FnMut(Line)) {
         put(read(&bytes, 64));
         put(check(&bytes));
     }
+    for _ in 0..10 {
+        put(spent_on(random));
+    }
+}
+
+/// The bits that 64 strings spend on a matrix file that is sound in half of the cases: the strings
+/// one byte short, exact or longer, in half of the cases with a bit turned over, spare or not.
+fn spent_on(random: &mut Random) -> Line {
+    let (rows, columns) = (random.between(1, 5), random.between(1, 20));
+    let matrix = random::matrix(random, rows, columns);
+    let mut strings = random::strings(random, &matrix);
+    if random.bit() == 1 {
+        let at = random.below(strings.len());
+        let bit = random.below(8) as u8;
+        Edit::Bit { at, bit }.apply(&mut strings);
+    }
+    strings.resize(around(random, strings.len()), 0xff);
+    let mut file = matrix.encode();
+    if random.bit() == 1 {
+        file = damage(random, &file, &matrix_edits(&file));
+    }
+    spent(&file, &strings)
 }
 
 /// A short program: one that a small matrix compiles to, or any.

@@ -21,6 +21,7 @@ pub enum Task {
     SignedSamples = 0xb,
     Draw = 0xc,
     DrawSigned = 0xd,
+    Spent = 0xe,
     Rewrite = 0x10,
     Draws = 0x11,
     Stops = 0x12,
@@ -30,7 +31,7 @@ pub enum Task {
 
 impl Task {
     /// All of them.
-    pub const ALL: [Task; 18] = [
+    pub const ALL: [Task; 19] = [
         Task::Read,
         Task::Write,
         Task::Build,
@@ -44,6 +45,7 @@ impl Task {
         Task::SignedSamples,
         Task::Draw,
         Task::DrawSigned,
+        Task::Spent,
         Task::Rewrite,
         Task::Draws,
         Task::Stops,
@@ -66,7 +68,7 @@ impl Task {
     pub fn program(self) -> &'static str {
         match self {
             Task::Read | Task::Write | Task::Build | Task::Walk => "vectors_matrices",
-            Task::Compile | Task::Rewrite => "vectors_matrices",
+            Task::Compile | Task::Spent | Task::Rewrite => "vectors_matrices",
             Task::Check | Task::Start | Task::Resume => "vectors_runs",
             Task::Stops | Task::LongCheck | Task::LongStart => "vectors_runs",
             Task::Slice | Task::Samples | Task::SignedSamples => "vectors_lanes",

@@ -1,7 +1,7 @@
 //! Sound matrices of all sizes: read, written, walked, compiled, and run with and without stops;
 //! and matrices just not accepted.
 
-use super::cases::{build, compile, draws, read, rewrite, stops, walk, write};
+use super::cases::{build, compile, draws, read, rewrite, spent, stops, walk, write};
 use super::line::Line;
 use crate::compiler::translate;
 use crate::extremes::longest_program;
@@ -82,16 +82,17 @@ fn single(random: &mut Random, matrix: &Matrix, put: &mut dyn FnMut(Line)) {
 }
 
 /// The exact length, or one less or more.
-fn around(random: &mut Random, length: usize) -> usize {
+pub fn around(random: &mut Random, length: usize) -> usize {
     length + random.pick(&[0, 1, 1, 1, 2]) - 1
 }
 
-/// The whole way of a matrix: its program, and the samples of 64 strings.
+/// The whole way of a matrix: its program, the samples of 64 strings, and the bits that they spend.
 fn whole(random: &mut Random, matrix: &Matrix, put: &mut dyn FnMut(Line)) {
     let file = matrix.encode();
     put(compile(&file, translate(matrix).length()));
     let strings = random::strings(random, matrix);
     put(draws(&file, &strings, random.word()));
+    put(spent(&file, &strings));
 }
 
 /// A run of a matrix's program with some stops.

@@ -1,7 +1,7 @@
 //! Fixed cases: 01's "Checked by hand", and the edges of every operation's sizes and checks.
 
 use super::cases::{build, check, compile, rewrite, samples, signed_samples, slice};
-use super::cases::{draw, draw_signed, read, start, walk, write};
+use super::cases::{draw, draw_signed, read, spent, start, walk, write};
 use super::line::Line;
 use crate::compiler;
 use crate::matrix::{file_length, Matrix};
@@ -26,6 +26,7 @@ pub fn fixed(put: &mut dyn FnMut(Line)) {
     matrices(put);
     weights(put);
     walks(put);
+    bits_spent(put);
     writes(put);
     programs(put);
     slices(put);
@@ -41,6 +42,11 @@ fn file_of(texts: &[&str]) -> Vec<u8> {
 /// The program of rows written as texts.
 fn program_of(texts: &[&str]) -> Vec<u8> {
     compiler::translate(&Matrix::from_texts(texts)).encode()
+}
+
+/// All the strings of so many bits in turn, one a lane.
+fn in_turn(bits: usize) -> Vec<u8> {
+    (0..64u8).map(|lane| lane << (8 - bits)).collect()
 }
 
 /// A file with this header, whatever it says, and bytes of 0 after it.
@@ -172,6 +178,57 @@ fn walks(put: &mut dyn FnMut(Line)) {
     put(walk(&file_with(9, 16, 1, 1, 0), &[]));
 }
 
+/// 02, order 1: the columns that 64 strings use together, each of which can be counted by hand.
+fn bits_spent(put: &mut dyn FnMut(Line)) {
+    let three = file_of(&["10", "01", "01"]);
+    // Strings too short, exact, and longer, with spare bits there that are not tried.
+    let longer = [in_turn(2), vec![0xff; 3]].concat();
+    for length in [0, 63, 64, 65, 67] {
+        put(spent(&three, &longer[..length]));
+    }
+    for row in ["1", "0", "00", "010"] {
+        put(spent(&file_of(&[row]), &in_turn(row.len())));
+    }
+    // A string unlike the others is counted in every lane, and its spare bits are tried there.
+    for lane in [0, 1, 31, 62, 63] {
+        let mut unlike = [0x00; 64];
+        unlike[lane] = 0x81;
+        put(spent(&file_of(&["10000000"]), &unlike));
+        put(spent(&three, &unlike));
+        unlike[lane] = 0x20;
+        put(spent(&three, &unlike));
+    }
+    // Strings of two bytes; a bit that is spare in the second byte is not in the first.
+    let nine = file_of(&["000000001"]);
+    for length in [64, 127, 128, 129] {
+        put(spent(&nine, &[0x00; 129][..length]));
+    }
+    for place in [0, 1, 126, 127] {
+        let mut strings = [0x00; 128];
+        strings[place] = 0x01;
+        put(spent(&nine, &strings));
+    }
+    // Two or three faults at once.
+    let above = file_of(&["10", "10", "01"]);
+    put(spent(&three, &[0xff; 63]));
+    for strings in [&[0xff; 63][..], &[0xff; 64], &in_turn(2)] {
+        put(spent(&above, strings));
+    }
+    put(spent(&file_with(9, 16, 1, 1, 0), &[]));
+    distances(put);
+}
+
+/// Hits in column 64 of 128, and strings that miss: a distance that wraps in 64 bits would make
+/// hits there of them too.
+fn distances(put: &mut dyn FnMut(Line)) {
+    let late = format!("{}1{}", "0".repeat(64), "0".repeat(63));
+    for first in [0x00, 0x80] {
+        let mut string = [0x00; 16];
+        string[0] = first;
+        put(spent(&file_of(&[&late]), &string.repeat(64)));
+    }
+}
+
 fn writes(put: &mut dyn FnMut(Line)) {
     let entries = [1, 0, 0, 1, 0, 1];
     for (given, file_lent) in [(6, 11), (6, 10), (6, 0), (5, 11), (0, 0)] {
@@ -269,7 +326,7 @@ fn sample_words(put: &mut dyn FnMut(Line)) {
 
 fn draws(put: &mut dyn FnMut(Line)) {
     let program = program_of(&["10", "01", "01"]);
-    let strings: Vec<u8> = (0..64).map(|lane| (lane as u8 % 4) << 6).collect();
+    let strings = in_turn(2);
     put(draw(&program, &strings, 64));
     put(draw_signed(&program, &strings, 0xaaaa_aaaa_5555_5555, 64));
     let mut spare = strings.clone();

@@ -12,7 +12,7 @@ use reference::program::{MOST_INPUTS, MOST_OUTPUTS};
 use reference::random::Random;
 
 /// 64 strings of so many bits: sound, with a spare bit, too short.
-fn some_strings(random: &mut Random, columns: usize) -> Vec<u8> {
+pub fn some_strings(random: &mut Random, columns: usize) -> Vec<u8> {
     let mut strings = strings(random, columns, LANES);
     if random.once_in(6) {
         set_spare_bit(random, &mut strings, columns);

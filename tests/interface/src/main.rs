@@ -47,11 +47,12 @@ const fn operation(
     }
 }
 
-const OPERATIONS: [Operation; 14] = [
+const OPERATIONS: [Operation; 15] = [
     operation("read", matrices::read, &[1, 2, 3, 4, 5, 6, 13]),
     operation("write", matrices::write, &[3, 5, 6, 13]),
     operation("build", matrices::build, &[3, 11, 13]),
     operation("walk", matrices::walk, &[1, 2, 3, 4, 5, 6, 13]),
+    operation("spent", matrices::spent, &[1, 2, 3, 4, 5, 6, 13]),
     operation("compile", matrices::compile, &[1, 2, 3, 4, 5, 6, 13]),
     operation("check", programs::check, &[1, 2, 3, 4, 7, 8, 9, 10]),
     operation("start", programs::start, &[1, 2, 3, 4, 7, 8, 9, 10, 13]),

@@ -1,7 +1,8 @@
-//! The operations on matrix files: read, write, build, walk, compile.
+//! The operations on matrix files: read, write, build, walk, spent, compile.
 
 use crate::faults::{of_matrix, some_faults};
 use crate::inputs::{fit, length, matrix, outside, set_spare_bit, Stock, SIXTEEN_BITS};
+use crate::lanes::some_strings;
 use crate::memory::Memory;
 use crate::trial::Trial;
 use reference::compiler::translate;
@@ -192,9 +193,13 @@ pub fn walk(trial: &mut Trial, random: &mut Random, stock: &Stock) {
     let file = memory.lend("file", &file);
     let string = memory.lend("string", &string);
     let row = memory.number("row");
+    let used = memory.number("used");
     trial.compare(
         &memory,
-        |view| unsafe { lent::walk(view.slice(file), view.slice(string), view.number(row)) },
+        |view| unsafe {
+            let (row, used) = (view.number(row), view.number(used));
+            lent::walk(view.slice(file), view.slice(string), row, used)
+        },
         |table, view| unsafe {
             (table.walk)(
                 view.pointer(file),
@@ -202,6 +207,29 @@ pub fn walk(trial: &mut Trial, random: &mut Random, stock: &Stock) {
                 view.pointer(string),
                 string.length,
                 view.pointer(row),
+                view.pointer(used),
+            )
+        },
+    );
+}
+
+pub fn spent(trial: &mut Trial, random: &mut Random, stock: &Stock) {
+    let (file, matrix) = some_file(random, stock);
+    let strings = some_strings(random, matrix.columns);
+    let mut memory = Memory::new(random);
+    let file = memory.lend("file", &file);
+    let strings = memory.lend("strings", &strings);
+    let total = memory.number("total");
+    trial.compare(
+        &memory,
+        |view| unsafe { lent::spent(view.slice(file), view.slice(strings), view.number(total)) },
+        |table, view| unsafe {
+            (table.spent)(
+                view.pointer(file),
+                file.length,
+                view.pointer(strings),
+                strings.length,
+                view.pointer(total),
             )
         },
     );

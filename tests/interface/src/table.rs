@@ -30,6 +30,8 @@ tables! {
     build: through_build, corkhollow_build
         (*const u32, usize, usize, bool, *mut u8, usize, *mut usize);
     walk: through_walk, corkhollow_walk
+        (*const u8, usize, *const u8, usize, *mut usize, *mut usize);
+    spent: through_spent, corkhollow_spent
         (*const u8, usize, *const u8, usize, *mut usize);
     compile: through_compile, corkhollow_compile
         (*const u8, usize, *mut u8, usize, *mut usize);

@@ -1,7 +1,7 @@
 //! The safe functions of the Rust binding, each on a sound input and on a refused one. What they wrap is tried elsewhere: here it shows
 //! that they hand everything on in its place.
 
-use crate::corkhollow::{self as binding, Header, Refusal, Run};
+use crate::corkhollow::{self as binding, Header, Refusal, Run, Walk};
 use crate::trial::fail;
 use reference::compiler::translate;
 use reference::lent::{self, DONE};
@@ -43,6 +43,7 @@ pub fn compare() {
     matrices(&sound, &file);
     let or_less = |sound: bool, bytes: &[u8]| bytes[..bytes.len() - usize::from(!sound)].to_vec();
     both("walk", |sound| walk(&or_less(sound, &file)));
+    both("spent", |sound| spent(&or_less(sound, &file)));
     both("compile", |sound| compile(&or_less(sound, &file)));
     both("check", |sound| check(&or_less(sound, &program)));
     both("start", |sound| start(&or_less(sound, &program)));
@@ -96,23 +97,32 @@ fn build(weights: &[u32]) -> bool {
     same("build", (answer, left), (returned, length, wanted))
 }
 
-/// A hit, and a miss of the matrix's first row alone.
+/// A hit, and a miss that uses all three columns.
 fn walk(file: &[u8]) -> bool {
-    let mut row = 0;
-    let returned = lent::walk(file, &[0x80], &mut row);
-    let hit = same(
-        "walk",
-        (binding::walk(file, &[0x80]), ()),
-        (returned, Some(row), ()),
-    );
-    let missed = Matrix::from_texts(&["1"]).encode();
-    let returned = lent::walk(&missed, &[0x80], &mut row);
-    same(
-        "walk",
-        (binding::walk(&missed, &[0x80]), ()),
-        (returned, None, ()),
-    );
-    hit
+    let missed = Matrix::from_texts(&["100"]).encode();
+    let miss = Walk { row: None, used: 3 };
+    let answer = binding::walk(&missed, &[0x80]);
+    same("walk", (answer, ()), (DONE, miss, ()));
+    walk_on(file, &[0xc0])
+}
+
+fn walk_on(file: &[u8], string: &[u8]) -> bool {
+    let (mut row, mut used) = (0, 0);
+    let returned = lent::walk(file, string, &mut row, &mut used);
+    let row = (row != usize::from(binding::MISS)).then_some(row);
+    let answer = binding::walk(file, string);
+    same("walk", (answer, ()), (returned, Walk { row, used }, ()))
+}
+
+fn spent(file: &[u8]) -> bool {
+    spent_on(file, &strings())
+}
+
+fn spent_on(file: &[u8], strings: &[u8]) -> bool {
+    let mut total = 0;
+    let returned = lent::spent(file, strings, &mut total);
+    let answer = binding::spent(file, strings);
+    same("spent", (answer, ()), (returned, total, ()))
 }
 
 fn compile(file: &[u8]) -> bool {
@@ -275,11 +285,9 @@ fn draw_signed_on(program: &[u8], strings: &[u8]) -> bool {
 fn overlaps() {
     let table = Matrix::from_texts(&["10011010", "00110101", "00100001"]);
     let file = table.encode();
-    let mut row = 0;
-    let returned = lent::walk(&file, &file, &mut row);
-    let walked = binding::walk(&file, &file);
-    let row = (row != usize::from(binding::MISS)).then_some(row);
-    done(same("walk", (walked, ()), (returned, row, ())));
+    done(walk_on(&file, &file));
+    let long = Matrix::from_texts(&["00000011"; 64]).encode();
+    done(spent_on(&long, &long));
     let program = translate(&table).encode();
     done(draw_on(&program, &program));
     done(draw_signed_on(&program, &program));

@@ -4,37 +4,35 @@ use mathlib.Core.Logic.{⊎-elim}
 use mathlib.Core.Path.{_≡_, _∙_}
 use mathlib.Core.List.{List}
 use Prim.Native.Nat.{ℕ, _+_, _-_, _*_, _≤_, _<_}
-use Rattle.laws.specs.Lists.{upto}
 use Rattle.fields.specs.Fields.{bitOf, width}
 use Rattle.walk.specs.Walk as W
-use Rattle.walk.specs.Ways.{packedRows}
-use Rattle.walk.specs.Turns.{Left, Within, start, into, pass, strike, near, after, lost, over, place-fits}
+use Rattle.walk.specs.Turns.{Left, Within, start, into, pass, strike, near, after, lost, over, row-fits, place-fits}
 use Rattle.walk.proofs.draw.Statement.{statement}
 use Rattle.walk.proofs.draw.Tie as tie
 
--- what is left of the walk of the packed rows on the packed string is what the whole draws: before column c, and in it after i rows
-abbrev Here : List ℕ → ℕ → ℕ → List ℕ → ℕ → ℕ → Type 0
-Here rows m n string = Left (packedRows rows n) (bitOf string 0) m n (W.walk (packedRows rows n) m 0 0 (upto n (bitOf string 0)))
+-- what is left of the walk of the file's rows is what the whole draws: before column c, and in it after i rows
+abbrev Here : List ℕ → List ℕ → ℕ → ℕ → ℕ → ℕ → ℕ → Type 0
+Here file strings at m n = Left (W.fileRows file n) (bitOf strings at) m n (W.drawAt file strings at)
 
-abbrev Inner : List ℕ → ℕ → ℕ → List ℕ → ℕ → ℕ → ℕ → Type 0
-Inner rows m n string = Within (packedRows rows n) (bitOf string 0) m n (W.walk (packedRows rows n) m 0 0 (upto n (bitOf string 0)))
+abbrev Inner : List ℕ → List ℕ → ℕ → ℕ → ℕ → ℕ → ℕ → ℕ → Type 0
+Inner file strings at m n = Within (W.fileRows file n) (bitOf strings at) m n (W.drawAt file strings at)
 
 abbrev Inv-loop : tie.InvT-loop
-Inv-loop rows m n string w d₀ drawn₀ c i₀ d drawn i =
-    (drawn ≡ W.miss) × (w ≡ width n) × (i ≤ m) × (d ≤ 2 * m + 1) × (c < n) × Inner rows m n string c i d
+Inv-loop file strings at m n w d₀ drawn₀ c i₀ d drawn i =
+    (drawn ≡ W.miss) × (w ≡ width n) × (i ≤ m) × (d ≤ 2 * m + 1) × (c < n) × Inner file strings at m n c i d
 
 abbrev μ-loop : tie.MeasureT-loop
-μ-loop rows m n string w d₀ drawn₀ c i₀ d drawn i = m - i
+μ-loop file strings at m n w d₀ drawn₀ c i₀ d drawn i = m - i
 
 abbrev Inv-walk : tie.InvT-walk
-Inv-walk rows m n string w d₀ drawn₀ c₀ d drawn c =
-    (drawn ≡ W.miss) × (w ≡ width n) × (c ≤ n) × (d ≤ m) × Here rows m n string c d
+Inv-walk file strings at m n w d₀ drawn₀ c₀ d drawn c =
+    (drawn ≡ W.miss) × (w ≡ width n) × (c ≤ n) × (d ≤ m) × Here file strings at m n c d
 
 abbrev μ-walk : tie.MeasureT-walk
-μ-walk rows m n string w d₀ drawn₀ c₀ d drawn c = n - c
+μ-walk file strings at m n w d₀ drawn₀ c₀ d drawn c = n - c
 
 walk-holds : tie.Need-walk-holds Inv-loop μ-loop Inv-walk μ-walk
-walk-holds c = (search needs, search needs, search needs, search needs, start _ _ _ _)
+walk-holds c = (search needs, search needs, search needs, search needs, start _ _ _ _ _ (search needs) (search needs))
 
 loop-holds : tie.Need-loop-holds Inv-loop μ-loop Inv-walk μ-walk
 loop-holds c = (
@@ -47,7 +45,10 @@ loop-holds c = (
 )
 
 mul-bit : tie.Need-mul-bit Inv-loop μ-loop Inv-walk μ-walk
-mul-bit c = record { fits = place-fits _ _ (search needs) (search needs) }
+mul-bit c = record { fits = row-fits _ _ (search needs) (search needs) }
+
+add-bit : tie.Need-add-bit Inv-loop μ-loop Inv-walk μ-walk
+add-bit c = record { fits = place-fits _ _ (search needs) (search needs) }
 
 loop-again : tie.Need-loop-again Inv-loop μ-loop Inv-walk μ-walk
 loop-again c =
@@ -104,7 +105,7 @@ returns-3 c =
 pub draw-spec : {M : Type 1} → statement M
 draw-spec =
     tie.close
-    (tie.spec Inv-loop μ-loop Inv-walk μ-walk (λ c κs. search needs) walk-holds (λ c. search needs) (λ c κs. search needs)
-    (λ c. search needs) (λ c. search needs) loop-holds (λ c. search needs) (λ c. search needs) mul-bit (λ c κs. search needs)
-    (λ c. search needs) (λ c. search needs) (λ c. search needs) loop-again (λ c. search needs) (λ c. search needs) walk-again returns
-    returns-2 returns-3)
+    (tie.spec Inv-loop μ-loop Inv-walk μ-walk (λ c κs. search needs) (λ c κs. search needs) (λ c κs. search needs) walk-holds
+    (λ c. search needs) (λ c κs. search needs) (λ c. search needs) (λ c. search needs) loop-holds (λ c. search needs) (λ c. search needs)
+    mul-bit add-bit (λ c κs. search needs) (λ c. search needs) (λ c. search needs) (λ c. search needs) loop-again (λ c. search needs)
+    (λ c. search needs) walk-again returns returns-2 returns-3)

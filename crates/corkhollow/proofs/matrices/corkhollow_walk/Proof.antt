@@ -7,13 +7,13 @@ use Rattle.corkhollow.proofs.matrices.corkhollow_walk.Statement.{statem
 use Rattle.corkhollow.proofs.matrices.corkhollow_walk.Tie as tie
 
 returns : tie.Need-returns
-returns c = walks walked _ _ (c .before .before .why .given .1) (search) (c .number .ensures) refl
+returns c = walks walked _ _ _ (c .before .before .why .given .1) (search) (c .number .ensures) refl refl
 
 returns-2 : tie.Need-returns-2
-returns-2 c = walks walked _ _ (c .before .v .given .1) (search) refl refl
+returns-2 c = walks walked _ _ _ (c .before .v .given .1) (search) refl refl refl
 
 returns-3 : tie.Need-returns-3
-returns-3 c = walks walked _ _ (c .enum-told .given .1) (search) refl refl
+returns-3 c = walks walked _ _ _ (c .before .n .given .1) (search) refl refl refl
 
 pub corkhollow-walk-spec : {M : Type 1} → statement M
 corkhollow-walk-spec =
