@@ -118,7 +118,8 @@ uint32_t corkhollow_build(const uint32_t *weights, size_t weights_length,
 
 /*
  * Walks a matrix file on one packed string of as many bits as it has columns: the row that is hit, or CORKHOLLOW_MISS, and how many
- * columns the walk used, one bit each: c + 1 for a hit in column c, counted from 0, and all columns for a miss.
+ * columns the walk used, one bit each: c + 1 for a hit in column c, counted from 0, and all columns for a miss. No later bit has any
+ * bearing on the row. What the walk used says something of the row: keep it as secret.
  * Refusals, in the order tried: 1, 2, 3, 4, 5, 6 for the file; 13, then 5 for the string.
  */
 uint32_t corkhollow_walk(const uint8_t *file, size_t file_length,
