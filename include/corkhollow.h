@@ -128,7 +128,7 @@ uint32_t corkhollow_walk(const uint8_t *file, size_t file_length,
 
 /*
  * Adds up the columns that the walks on 64 packed strings use, one string after another, of as many bits each as the matrix file has
- * columns: the bits that 64 samples cost where a walk takes them one by one. The total is from 64 to 64 * columns.
+ * columns: the bits that 64 samples cost where a walk takes them one by one. The total is from 64 to 64 * columns. Keep it secret too.
  * Refusals, in the order tried: 1, 2, 3, 4, 5, 6 for the file; 13, then 5 for `strings`.
  */
 uint32_t corkhollow_spent(const uint8_t *file, size_t file_length,

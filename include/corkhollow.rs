@@ -1,6 +1,6 @@
 //! Corkhollow from Rust: what `corkhollow.h` declares, and a safe function for each of it.
 //!
-//! Take this file into a crate by `#[path = ".."] mod corkhollow;` and link the static library `engine`: `bash include/archive` writes
+//! Take this file into a crate by `#[path = ".."] mod corkhollow;` and link the static library `corkhollow`: `bash include/archive` writes
 //! target/staticlib/libcorkhollow.a. It uses `core` alone, so that it works without `std`, in the editions 2021 and 2024.
 //! The header says what each operation takes, gives and refuses. A refusal has changed nothing that was lent.
 //!

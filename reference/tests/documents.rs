@@ -109,8 +109,8 @@ fn levels_of_002() {
     assert!((12..=20).contains(&open));
 }
 
-/// A sample takes 4.8806 columns over all strings, worked out with 160 decimal digits by other
-/// means.
+/// A sample takes 4.8806 columns over all strings: `walk_cases.py` has it too, by exact fractions of
+/// rows from 120 decimal digits.
 #[test]
 fn bits_spent_by_002() {
     let matrix = document_002();

@@ -126,9 +126,9 @@ pub extern "C" fn corkhollow_walk(
             *used = n;
             0
         }
-        Walked::Miss { used: n } => {
+        Walked::Miss { used: all } => {
             *row = MISS as usize;
-            *used = n;
+            *used = all;
             0
         }
     }

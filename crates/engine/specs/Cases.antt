@@ -29,7 +29,8 @@ use Rattle.machine.specs.Runs.{startOf, startOn, runOf}
 use Rattle.machine.specs.declared.runs.Run.{Run}
 use Rattle.compiler.specs.Translation.{bitsToWrite, rowBits, ifSet, marks, liveBefore, column}
 use Rattle.compiler.specs.Translation.{translation, program, compiled, compileOf}
-use Rattle.walk.specs.Walk.{at, scan, then, walk, drawn, used, Answer, sample, missed, Spending, walkOf}
+use Rattle.walk.specs.Walk.{at, scan, then, walk, drawn, used, Spending, walkOf}
+use Rattle.lanes.specs.Samples.{code}
 use Rattle.weights.specs.declared.building.Usage.{Usage}
 use Rattle.weights.specs.declared.building.Usage.the-variants.{Plain}
 
@@ -41,7 +42,7 @@ pub data Operation : Type 0 where
   reads : List ℕ → Operation
   -- weights and columns, to the entries of what is built
   builds : Usage → List ℕ → ℕ → Operation
-  -- a file and a packed string, to the row that the walk hits, if any, and the columns that it has used
+  -- a file and a packed string, to the row that the walk hits, or 255, and the columns that it has used
   walks : List ℕ → List ℕ → Operation
   -- the walk of what is built from weights and columns, on a packed string
   builds-walks : Usage → List ℕ → ℕ → List ℕ → Operation
@@ -94,7 +95,7 @@ cases =
     ∷ (walks three-rows (0xc0 ∷ []) ⇒ gives (1 ∷ 2 ∷ []))
     -- one row 1, one column: string 0 gives 0, string 1 misses
     ∷ (walks one-row (0x00 ∷ []) ⇒ gives (0 ∷ 1 ∷ []))
-    ∷ (walks one-row (0x80 ∷ []) ⇒ gives (1 ∷ []))
+    ∷ (walks one-row (0x80 ∷ []) ⇒ gives (255 ∷ 1 ∷ []))
     -- the listing of rows 1, 1 of one column
     ∷ (compiles two-rows ⇒ gives (programFile listed listing))
     -- that program with budget 12 finishes, with 11 it stops at 11
@@ -106,20 +107,16 @@ cases =
     -- weights 1, 1, 1 with n = 2: rows 01, 01, 01
     ∷ (builds Plain (1 ∷ 1 ∷ 1 ∷ []) 2 ⇒ gives (0 ∷ 1 ∷ 0 ∷ 1 ∷ 0 ∷ 1 ∷ []))
     -- and 11 misses
-    ∷ (builds-walks Plain (1 ∷ 1 ∷ 1 ∷ []) 2 (0xc0 ∷ []) ⇒ gives (2 ∷ []))
+    ∷ (builds-walks Plain (1 ∷ 1 ∷ 1 ∷ []) 2 (0xc0 ∷ []) ⇒ gives (255 ∷ 2 ∷ []))
     -- weight 5 alone, n = 3: row 111
     ∷ (builds Plain (5 ∷ []) 3 ⇒ gives (1 ∷ 1 ∷ 1 ∷ []))
     -- weights 0, 0: refusal 11
     ∷ (builds Plain (0 ∷ 0 ∷ []) 1 ⇒ refused 11)
     ∷ []
 
--- the row of a walk, if any, and the columns that it has used
+-- the row of a walk, or 255, and the columns that it has used
 toldOf : Spending → List ℕ
-toldOf w = row (w .answer)
-  where
-    row : Answer → List ℕ
-    row (sample v) = v ∷ w .used ∷ []
-    row missed = w .used ∷ []
+toldOf w = code (w .answer) ∷ w .used ∷ []
 
 -- a run's answer in numbers
 numbersOf : Run → List ℕ

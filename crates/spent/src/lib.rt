@@ -3,13 +3,10 @@
 // It takes any file and any strings, of any length, and answers the total or one refusal. Its contract cites `spentOf` of specs/Spent.antt;
 // what holds of the total is in specs/Theorems.antt. The file is checked once, and then walked on each string.
 ghost use mathlib.Core.Path.{_≡_};
-ghost use Prim.Native.Nat.{_≤_};
 ghost use Rattle.laws.specs.Sums.{sumTo};
-ghost use Rattle.fields.specs.Fields.{fieldOf};
-ghost use Rattle.walk.specs.Walk.{used};
 ghost use Rattle.lanes.specs.Slicing.{lanes};
 ghost use Rattle.spent.specs.Spent.{spentOf, totalled};
-ghost use Rattle.spent.specs.Ways.{usedAt};
+ghost use Rattle.spent.specs.Ways.{usedBy};
 use fields::Refusal;
 use fields::Strings;
 use fields::check_strings;
@@ -18,8 +15,7 @@ use fields::width;
 use files::Checked;
 use files::check;
 use lanes::LANES;
-use walk::Drawn;
-use walk::draw;
+use walk::used;
 
 // A refusal, or the columns that 64 walks have used together.
 pub enum Total {
@@ -27,26 +23,14 @@ pub enum Total {
     Columns(usize),
 }
 
-// The columns that a walk of n columns has used.
-fn used(drawn: Drawn, n: usize) -> usize
-    requires { ⌜ used n drawn ≤ n ⌝ }
-    ensures { λ r. ⌜ (r ≡ used n drawn) × (r ≤ n) ⌝ }
-{
-    match drawn {
-        Drawn::Hit { row, column } => column + 1,
-        Drawn::Miss => n,
-    }
-}
-
 // The columns that the walks of a file on 64 strings, one after another, have used together.
 fn sum_used(file: &[u8], strings: &[u8]) -> usize
-    ensures { λ r. ⌜ r ≡ sumTo lanes (usedAt (now (file .entry)) (now (strings .entry)) (fieldOf (now (file .entry)) 6)) ⌝ }
+    ensures { λ r. ⌜ r ≡ sumTo lanes (usedBy (now (file .entry)) (now (strings .entry))) ⌝ }
 {
-    let n = field(file, 6);
-    let w = width(n);
+    let w = width(field(file, 6));
     let mut total: usize = 0;
     for j in 0..LANES {
-        total += used(draw(file, strings, j * w), n);
+        total += used(file, strings, j * w);
     }
     total
 }

@@ -125,21 +125,21 @@ usedIn (refused n) = 0
 usedIn (gives w) = w .used
 
 module _ (file : List ℕ) (M : Matrix) (e : matrixOf file ≡ gives M) where
-  -- what is told of the walk of M
-  abbrev pub told : List ℕ → Spending
-  told s = spendingOf (M .columns) (drawn M s)
+  -- what is told of the walk of M on a string
+  abbrev told-of : List ℕ → Spending
+  told-of s = spendingOf (M .columns) (drawn M s)
 
   -- the walk of the file on a string that is sound is the walk of its matrix on the string's first n bits
   pub walk-is : (string : List ℕ) → stringsOf 1 (M .columns) string ≡ gives tt →
-      walkOf file string ≡ gives (told (upto (M .columns) (bitOf string 0)))
+      walkOf file string ≡ gives (told-of (upto (M .columns) (bitOf string 0)))
   unfolding walkOf
   walk-is string s = rw (e, s)
 
-  pub walk-packed : (s : List ℕ) → Bits (M .columns) s → walkOf file (packedString (M .columns) s) ≡ gives (told s)
+  pub walk-packed : (s : List ℕ) → Bits (M .columns) s → walkOf file (packedString (M .columns) s) ≡ gives (told-of s)
   walk-packed s b =
       let a = read-accepted file M e in
       walk-is (packedString (M .columns) s) (packedString-sound (M .columns) s b (a .some-columns) (a .few-columns)) ∙
-      ap (λ (l : List ℕ). gives (told l)) (packedString-bits (M .columns) s b)
+      ap (λ (l : List ℕ). gives (told-of l)) (packedString-bits (M .columns) s b)
 
   -- how many strings, packed, have an answer that passes the test
   file-count : (test : Answer → Bool) →
@@ -172,7 +172,7 @@ module _ (file : List ℕ) (M : Matrix) (e : matrixOf file ≡ gives M) where
   pub file-first-bits : (a b : List ℕ) → stringsOf 1 (M .columns) a ≡ gives tt → stringsOf 1 (M .columns) b ≡ gives tt →
       ((i : ℕ) → i < M .columns → bitOf a 0 i ≡ bitOf b 0 i) → walkOf file a ≡ walkOf file b
   file-first-bits a b s t h =
-      walk-is a s ∙ (ap (λ (l : List ℕ). gives (told l)) (upto-eq (M .columns) (bitOf a 0) (bitOf b 0) h) ∙ sym (walk-is b t))
+      walk-is a s ∙ (ap (λ (l : List ℕ). gives (told-of l)) (upto-eq (M .columns) (bitOf a 0) (bitOf b 0) h) ∙ sym (walk-is b t))
 
   -- 3. and bytes beyond those that n bits take do not count
   pub file-front : (bytes more : List ℕ) → width (M .columns) ≤ length bytes → walkOf file (bytes ++ more) ≡ walkOf file bytes
@@ -190,9 +190,9 @@ module _ (file : List ℕ) (M : Matrix) (e : matrixOf file ≡ gives M) where
     bits = upto (M .columns) (bitOf string 0)
 
     -- it is what is told of the walk of M on the string's first n bits
-    file-told : told bits ≡ w
+    file-told : told-of bits ≡ w
     unfolding walkOf
-    file-told = gives-inj (then-gives (stringsOf 1 (M .columns) string) (gives (told bits)) w (rw e at g) .1)
+    file-told = gives-inj (then-gives (stringsOf 1 (M .columns) string) (gives (told-of bits)) w (rw e at g) .1)
 
     many : length bits ≡ M .columns
     many = length-upto (M .columns) (bitOf string 0)

@@ -78,9 +78,9 @@ pub start : (file strings : List ℕ) (place m n : ℕ) → m ≡ fieldOf file 4
 unfolding Left rest drawAt
 start file strings place m n a b = rw (← a, ← b, sub-zero n, upto-from n (bitOf strings place))
 
--- where a row begins, counted from the first and from the file's first byte
-pub row-fits : (v w : ℕ) → v ≤ 65535 → w ≤ 8192 → v * w < 2 ^ 64
-row-fits v w a b = omega (arith, mul-le-mul a b)
-
+-- where a row begins, counted from the file's first byte and from the first row
 pub place-fits : (v w : ℕ) → v ≤ 65535 → w ≤ 8192 → 8 + v * w < 2 ^ 64
 place-fits v w a b = omega (arith, mul-le-mul a b)
+
+pub row-fits : (v w : ℕ) → v ≤ 65535 → w ≤ 8192 → v * w < 2 ^ 64
+row-fits v w a b = omega (arith, place-fits v w a b)

@@ -8,7 +8,7 @@ use Rattle.laws.specs.Tests.{never}
 use Rattle.laws.specs.Lists.{upto, length-upto}
 use Rattle.fields.specs.Fields.{bitOf, fieldOf}
 use Rattle.files.specs.Matrix.{Matrix, bit}
-use Rattle.walk.specs.Walk.{Drawn, hit, miss, Place, found, left, scan, then, walk, drawn, fileRows, drawAt, used}
+use Rattle.walk.specs.Walk.{Drawn, hit, miss, Place, found, left, scan, then, walk, drawn, fileRows, drawAt, used, usedAt}
 use Rattle.walk.specs.Walk.{sample, missed, Spending, spendingOf, isMiss}
 use Rattle.walk.specs.Steps.{Inside, walk-inside}
 
@@ -90,6 +90,14 @@ told-hit n (hit u c) w v e q =
 told-hit n miss w v e q = never (sym (ap isMiss (ap (λ (x : Spending). x .answer) e ∙ q)))
 
 -- ---- the walk of the rows in a file, whatever its fields say
+pub hit-used : (n v c : ℕ) (d : Drawn) → hit v c ≡ d → c + 1 ≡ used n d
+unfolding used
+hit-used n v c d e = rw (← e)
+
+pub miss-used : (n : ℕ) (d : Drawn) → miss ≡ d → n ≡ used n d
+unfolding used
+miss-used n d e = rw (← e)
+
 module _ (file strings : List ℕ) (at : ℕ) where
   abbrev rows : ℕ → ℕ → ℕ
   rows = fileRows file (fieldOf file 6)
@@ -103,5 +111,5 @@ module _ (file strings : List ℕ) (at : ℕ) where
   pub drawAt-column : (v c : ℕ) → hit v c ≡ drawAt file strings at → c < fieldOf file 6
   drawAt-column v c e = (rw (← e) at drawAt-inside) .2
 
-  pub drawAt-used : used (fieldOf file 6) (drawAt file strings at) ≤ fieldOf file 6
-  drawAt-used = inside-most rows (fieldOf file 4) 0 (fieldOf file 6) (drawAt file strings at) drawAt-inside
+  pub usedAt-most : usedAt file strings at ≤ fieldOf file 6
+  usedAt-most = inside-most rows (fieldOf file 4) 0 (fieldOf file 6) (drawAt file strings at) drawAt-inside

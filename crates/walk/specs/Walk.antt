@@ -85,6 +85,10 @@ fileRows file n v = bitOf file (8 + v * width n)
 unfoldable pub drawAt : List ℕ → List ℕ → ℕ → Drawn
 drawAt file strings at = walk (fileRows file (fieldOf file 6)) (fieldOf file 4) 0 0 (upto (fieldOf file 6) (bitOf strings at))
 
+-- the columns that it has used, of as many as the file's field says
+abbrev pub usedAt : List ℕ → List ℕ → ℕ → ℕ
+usedAt file strings at = used (fieldOf file 6) (drawAt file strings at)
+
 -- whether an answer is row v, and whether it is a miss
 abbrev pub isRow : ℕ → Answer → Bool
 isRow v (sample u) = eqb u v

@@ -1,10 +1,9 @@
 // The walk of a matrix file on one packed string of bits (01, "Matrix and walk").
 //
 // It takes any file and any string, of any length, and answers a row or a miss with the columns used (02, order 1), or one refusal. Its
-// contract cites `walkOf` of specs/Walk.antt; what holds of all strings together is in specs/Theorems.antt, and of the columns used in
-// specs/Used.antt.
+// contract cites `walkOf` of specs/Walk.antt; what holds of what it answers, and of all strings together, is in specs/Theorems.antt.
 ghost use mathlib.Core.Path.{_≡_};
-ghost use Rattle.walk.specs.Walk.{drawAt, walked, walkOf};
+ghost use Rattle.walk.specs.Walk.{drawAt, usedAt, walked, walkOf};
 use fields::Refusal;
 use fields::Strings;
 use fields::bit;
@@ -28,9 +27,9 @@ pub enum Drawn {
 }
 
 // Walks the rows behind the header of a file, as many and as long as its fields say, on the packed string that begins at byte `at` of
-// `strings`. Whether the file is sound is not tried here, so that one check serves many walks. A d of m or more that is left after a
-// column can never hit later, so the walk ends there, and d never wraps.
-pub fn draw(file: &[u8], strings: &[u8], at: usize) -> Drawn
+// `strings`. Whether the file is sound is not tried here. A d of m or more that is left after a column can never hit later, so the walk
+// ends there, and d never wraps.
+fn draw(file: &[u8], strings: &[u8], at: usize) -> Drawn
     ensures { λ r. ⌜ r ≡ drawAt (now (file .entry)) (now (strings .entry)) at ⌝ }
 {
     let m = field(file, 4);
@@ -57,8 +56,20 @@ pub fn draw(file: &[u8], strings: &[u8], at: usize) -> Drawn
     drawn
 }
 
+// The columns that the walk on the packed string that begins at byte `at` of `strings` uses, of a file that is not checked here, so that
+// one check serves many walks (02, order 1). A miss has used them all, also where `draw` left off before the last.
+pub fn used(file: &[u8], strings: &[u8], at: usize) -> usize
+    ensures { λ r. ⌜ r ≡ usedAt (now (file .entry)) (now (strings .entry)) at ⌝ }
+{
+    let n = field(file, 6);
+    match draw(file, strings, at) {
+        Drawn::Hit { row, column } => column + 1,
+        Drawn::Miss => n,
+    }
+}
+
 // Walks a matrix file on a packed string: the row that is hit, or a miss, and the columns used; or refusal 1 to 6 for the file, then 13
-// and 5 for the string. A miss has used all columns, also where `draw` left off before the last.
+// and 5 for the string.
 pub fn walk(file: &[u8], string: &[u8]) -> Walked
     ensures { λ r. ⌜ walked r ≡ walkOf (now (file .entry)) (now (string .entry)) ⌝ }
 {

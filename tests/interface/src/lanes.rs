@@ -12,13 +12,18 @@ use reference::program::{MOST_INPUTS, MOST_OUTPUTS};
 use reference::random::Random;
 
 /// 64 strings of so many bits: sound, with a spare bit, too short.
-pub fn some_strings(random: &mut Random, columns: usize) -> Vec<u8> {
+fn some_strings(random: &mut Random, columns: usize) -> Vec<u8> {
     let mut strings = strings(random, columns, LANES);
-    if random.once_in(6) {
-        set_spare_bit(random, &mut strings, columns);
-    }
-    fit(random, &mut strings, 6);
+    string_faults(random, &mut strings, columns);
     strings
+}
+
+/// The faults of 64 strings, each once in some times.
+pub fn string_faults(random: &mut Random, strings: &mut Vec<u8>, columns: usize) {
+    if random.once_in(6) {
+        set_spare_bit(random, strings, columns);
+    }
+    fit(random, strings, 6);
 }
 
 pub fn slice(trial: &mut Trial, random: &mut Random, _: &Stock) {

@@ -2,7 +2,7 @@
 
 use crate::faults::{of_matrix, some_faults};
 use crate::inputs::{fit, length, matrix, outside, set_spare_bit, Stock, SIXTEEN_BITS};
-use crate::lanes::some_strings;
+use crate::lanes::string_faults;
 use crate::memory::Memory;
 use crate::trial::Trial;
 use reference::compiler::translate;
@@ -215,7 +215,9 @@ pub fn walk(trial: &mut Trial, random: &mut Random, stock: &Stock) {
 
 pub fn spent(trial: &mut Trial, random: &mut Random, stock: &Stock) {
     let (file, matrix) = some_file(random, stock);
-    let strings = some_strings(random, matrix.columns);
+    // strings for this matrix: some of them hit late, or never
+    let mut strings = random::strings(random, &matrix);
+    string_faults(random, &mut strings, matrix.columns);
     let mut memory = Memory::new(random);
     let file = memory.lend("file", &file);
     let strings = memory.lend("strings", &strings);

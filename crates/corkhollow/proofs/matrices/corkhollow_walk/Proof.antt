@@ -13,7 +13,7 @@ returns-2 : tie.Need-returns-2
 returns-2 c = walks walked _ _ _ (c .before .v .given .1) (search) refl refl refl
 
 returns-3 : tie.Need-returns-3
-returns-3 c = walks walked _ _ _ (c .before .n .given .1) (search) refl refl refl
+returns-3 c = walks walked _ _ _ (c .before .all .given .1) (search) refl refl refl
 
 pub corkhollow-walk-spec : {M : Type 1} → statement M
 corkhollow-walk-spec =
