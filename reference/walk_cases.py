@@ -1,7 +1,7 @@
 #!/usr/bin/env python3
 """Makes crates/walk_cases/stdin and stdout from the source documents: matrices, strings, and what 01's walk gives on them.
 
-Written from 01 and the papers alone, with exact integers and 120-digit decimals. Run it in the repository's root.
+Written from 01, 02 and the papers alone, with exact integers and 120-digit decimals. Run it in the repository's root.
 """
 import random
 from decimal import Decimal, getcontext

@@ -85,7 +85,8 @@ pub totals : {X : Type 0} (say : X → Outcome ℕ) (o : Outcome ℕ) {x y : X} 
     Returns (say y) r → Tells (λ n. n) (say y) total total′ → (r ≡ returned o) × (total′ ≡ told (λ n. n) o total)
 totals say o total c e a t =
     let whole : ℕ → ℕ = λ n. n in
-    (returns-of say whole o c (e ∙ all-of o) a, tells-of say whole whole o total c (e ∙ all-of o) t)
+    let all = e ∙ all-of o in
+    (returns-of say whole o c all a, tells-of say whole whole o total c all t)
 
 -- a program is checked, and its header told
 pub checks : {X : Type 0} (say : X → Outcome Program) (o : Outcome Code) {x y : X} {r registers′ inputs′ outputs′ count′ : ℕ}

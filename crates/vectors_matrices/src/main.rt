@@ -1,6 +1,5 @@
-// The reference's vectors of matrix files and their programs: reading, writing, building, walking, adding up what walks
-// use, and compiling. Standard input has a case a line, and for each an answer is printed; both are made by the reference
-// (reference/README.md).
+// The reference's vectors of matrix files and their programs: reading, writing, building, walking, adding up what walks use, and compiling.
+// Standard input has a case a line, and for each an answer is printed; both are made by the reference (reference/README.md).
 mod compiled;
 mod matrices;
 

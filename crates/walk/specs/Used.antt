@@ -89,7 +89,7 @@ told-hit n (hit u c) w v e q =
     ap₂ hit (cc) (omega (arith, ap (λ (x : Spending). x .used) e))
 told-hit n miss w v e q = never (sym (ap isMiss (ap (λ (x : Spending). x .answer) e ∙ q)))
 
--- ---- the walk of the rows in a file, whatever its fields say
+-- ---- the columns used, in the code's words
 pub hit-used : (n v c : ℕ) (d : Drawn) → hit v c ≡ d → c + 1 ≡ used n d
 unfolding used
 hit-used n v c d e = rw (← e)
@@ -98,6 +98,7 @@ pub miss-used : (n : ℕ) (d : Drawn) → miss ≡ d → n ≡ used n d
 unfolding used
 miss-used n d e = rw (← e)
 
+-- ---- the walk of the rows in a file, whatever its fields say
 module _ (file strings : List ℕ) (at : ℕ) where
   abbrev rows : ℕ → ℕ → ℕ
   rows = fileRows file (fieldOf file 6)
