@@ -10,8 +10,8 @@
 
 /* Ends the program where a call was refused. The number is the one that the call returned. */
 static inline void must(const char *call, uint32_t refusal) {
-    static const char *const names[] = {"OK",          "SHORT",   "KIND",      "SIZE",  "LENGTH",     "BIT",      "SUM",
-                                        "INSTRUCTION", "OPERAND", "UNWRITTEN", "UNSET", "WEIGHTLESS", "POSITION", "BUFFER"};
+    static const char *const names[] = {"OK",      "SHORT",     "KIND",  "SIZE",       "LENGTH",   "BIT",    "SUM",       "INSTRUCTION",
+                                        "OPERAND", "UNWRITTEN", "UNSET", "WEIGHTLESS", "POSITION", "BUFFER", "MULTIPLIER"};
     if (refusal == CORKHOLLOW_OK) return;
     const char *name = refusal < sizeof names / sizeof *names ? names[refusal] : "unknown";
     fprintf(stderr, "%s: refusal %u, %s\n", call, refusal, name);

@@ -29,9 +29,10 @@
  * - A call takes no memory but its stack, and of that under 12 KiB.
  * - The archive needs `memset` alone from outside, and has no data that can be written. So threads may call at once, also the same
  *   function: a call works on what it is lent and on its own stack. What one call changes is not to be lent to another meanwhile.
- * - Starting, resuming, slicing, reading samples and drawing carry out the same machine instructions at the same addresses whatever the
- *   random bits are: strings, words, registers, outputs, sign. But a spare bit that is set ends slicing and drawing at once, with its
- *   refusal; and the walk, and with it corkhollow_spent, chooses by every bit that it reads.
+ * - Starting, resuming, slicing, reading samples, drawing and combining carry out the same machine instructions at the same addresses
+ *   whatever the random bits are: strings, words, registers, outputs, sign, signed samples with their misses. But a spare bit that is set
+ *   ends slicing and drawing at once, with its refusal; combining chooses whether the entries of a list are refused, at most once a list,
+ *   after it has looked at all 64; and the walk, and with it corkhollow_spent, chooses by every bit that it reads.
  */
 #ifndef CORKHOLLOW_H
 #define CORKHOLLOW_H
@@ -52,7 +53,7 @@ enum corkhollow_refusal {
     CORKHOLLOW_KIND = 2,        /* the first record is not of the kind expected */
     CORKHOLLOW_SIZE = 3,        /* rows, columns, weights, registers, inputs, outputs, instructions or output words outside the limits */
     CORKHOLLOW_LENGTH = 4,      /* a length field that is not what the header requires, or bytes left over */
-    CORKHOLLOW_BIT = 5,         /* a spare bit set, or an entry neither 0 nor 1 */
+    CORKHOLLOW_BIT = 5,         /* a spare bit set, an entry neither 0 nor 1, or an entry of a list that is no signed sample */
     CORKHOLLOW_SUM = 6,         /* the rows of the matrix add up to more than 2^columns */
     CORKHOLLOW_INSTRUCTION = 7, /* an instruction's kind is not 1 to 7, or its length not that kind's */
     CORKHOLLOW_OPERAND = 8,     /* an operand is not below its count */
@@ -60,10 +61,11 @@ enum corkhollow_refusal {
     CORKHOLLOW_UNSET = 10,      /* an output that no instruction sets */
     CORKHOLLOW_WEIGHTLESS = 11, /* all weights are 0 */
     CORKHOLLOW_POSITION = 12,   /* a resume position above the program's instruction count */
-    CORKHOLLOW_BUFFER = 13      /* a lent buffer is too short for its own input or its own result */
+    CORKHOLLOW_BUFFER = 13,     /* a lent buffer is too short for its own input or its own result */
+    CORKHOLLOW_MULTIPLIER = 14  /* a multiplier outside 1 to 1,000 */
 };
 
-/* Limits. Rows, columns, weights, registers, inputs and outputs begin at 1, instructions at 0. */
+/* Limits. Rows, columns, weights, registers, inputs, outputs and multipliers begin at 1, instructions at 0. */
 #define CORKHOLLOW_LANES 64
 #define CORKHOLLOW_ROWS 128
 #define CORKHOLLOW_COLUMNS 128
@@ -71,10 +73,12 @@ enum corkhollow_refusal {
 #define CORKHOLLOW_INPUTS 128
 #define CORKHOLLOW_OUTPUTS 8
 #define CORKHOLLOW_INSTRUCTIONS 131072
+#define CORKHOLLOW_MOST_MULTIPLIER 1000
 
-/* What stands for a miss: as a sample or a row, and as a signed sample. */
+/* What stands for a miss: as a sample or a row, as a signed sample, and as a result of combining. */
 #define CORKHOLLOW_MISS 255
 #define CORKHOLLOW_SIGNED_MISS 32767
+#define CORKHOLLOW_COMBINED_MISS 2147483647
 
 /* The bytes of one packed string or row, and of a matrix file. */
 #define CORKHOLLOW_WIDTH(columns) (((size_t)(columns) + 7) / 8)
@@ -224,6 +228,26 @@ uint32_t corkhollow_draw_signed(const uint8_t *program, size_t program_length,
                                 const uint8_t *strings, size_t strings_length,
                                 uint64_t sign,
                                 int16_t *samples, size_t samples_length);
+
+/* ---- wide bells ---- */
+
+/*
+ * Combines four lists of 64 signed samples, entry by entry: result j is (x1 + first * x2) + second * (x3 + first * x4) of the four
+ * entries j, or CORKHOLLOW_COMBINED_MISS where any of these is CORKHOLLOW_SIGNED_MISS. No result of four values is the miss: it is at most
+ * 127,254,127 in size. Samples of deviation s give results of deviation s * sqrt((1 + first^2) * (1 + second^2)): with the multipliers 3
+ * and 11, deviation 6.15543 becomes 215.
+ *
+ * So it is where the lists are independent, each drawn from fresh strings with a fresh sign word: a list that is lent twice is not refused,
+ * but what comes of it is no wide bell. Entries beyond the 64th are not read.
+ * Refusals, in the order tried: 14 for `first` or `second`; 13 for a list or `results` under 64; 5 for an entry that is neither
+ * CORKHOLLOW_SIGNED_MISS nor from -127 to 127, also where another of its lane is a miss.
+ */
+uint32_t corkhollow_combine(const int16_t *x1, size_t x1_length,
+                            const int16_t *x2, size_t x2_length,
+                            const int16_t *x3, size_t x3_length,
+                            const int16_t *x4, size_t x4_length,
+                            uint32_t first, uint32_t second,
+                            int32_t *results, size_t results_length);
 
 #ifdef __cplusplus
 }

@@ -16,11 +16,14 @@ pub const REGISTERS: usize = 1024;
 pub const INPUTS: usize = 128;
 pub const OUTPUTS: usize = 8;
 pub const INSTRUCTIONS: usize = 131_072;
+pub const MOST_MULTIPLIER: u32 = 1_000;
 
 /// A miss, as a sample.
 pub const MISS: u8 = 255;
 /// A miss, as a signed sample.
 pub const SIGNED_MISS: i16 = 32_767;
+/// A miss, as a result of combining.
+pub const COMBINED_MISS: i32 = 2_147_483_647;
 
 /// Buffers of these lengths are never too short: entries, a matrix file, a program file, the 64 strings of a batch.
 pub const MOST_ENTRIES: usize = ROWS * COLUMNS;
@@ -163,6 +166,20 @@ pub mod raw {
             samples: *mut i16,
             samples_length: usize,
         ) -> u32;
+        pub fn corkhollow_combine(
+            x1: *const i16,
+            x1_length: usize,
+            x2: *const i16,
+            x2_length: usize,
+            x3: *const i16,
+            x3_length: usize,
+            x4: *const i16,
+            x4_length: usize,
+            first: u32,
+            second: u32,
+            results: *mut i32,
+            results_length: usize,
+        ) -> u32;
     }
 }
 
@@ -177,7 +194,7 @@ impl fmt::Display for Refusal {
             2 => "not the kind of file expected",
             3 => "a size outside the limits",
             4 => "a length field that does not fit, or bytes left over",
-            5 => "a spare bit set, or an entry neither 0 nor 1",
+            5 => "a spare bit set, an entry neither 0 nor 1, or one of a list that is no signed sample",
             6 => "the rows add up to more than 2^columns",
             7 => "an instruction of no known kind or length",
             8 => "an operand not below its count",
@@ -186,6 +203,7 @@ impl fmt::Display for Refusal {
             11 => "all weights are 0",
             12 => "a resume position above the count",
             13 => "a lent buffer is too short",
+            14 => "a multiplier outside 1 to 1,000",
             _ => "no refusal of the engine",
         };
         write!(f, "refusal {}: {why}", self.0)
@@ -509,6 +527,37 @@ pub fn draw_signed(
             sign,
             samples.as_mut_ptr(),
             samples.len(),
+        )
+    };
+    settle(returned, ())
+}
+
+/// Combines four lists of 64 signed samples, entry by entry, to (x1 + first × x2) + second × (x3 + first × x4). The lists must be
+/// independent: each drawn from fresh strings with a fresh sign word.
+pub fn combine(
+    x1: &[i16],
+    x2: &[i16],
+    x3: &[i16],
+    x4: &[i16],
+    first: u32,
+    second: u32,
+    results: &mut [i32],
+) -> Result<(), Refusal> {
+    // SAFETY: as in `read`.
+    let returned = unsafe {
+        raw::corkhollow_combine(
+            x1.as_ptr(),
+            x1.len(),
+            x2.as_ptr(),
+            x2.len(),
+            x3.as_ptr(),
+            x3.len(),
+            x4.as_ptr(),
+            x4.len(),
+            first,
+            second,
+            results.as_mut_ptr(),
+            results.len(),
         )
     };
     settle(returned, ())

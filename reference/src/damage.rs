@@ -1,8 +1,13 @@
-//! Damaged files: edits that break one rule of 01's table, or, two at a time, two rules.
+//! Damaged files: edits that break one rule of 01's table, or, two at a time, two rules. And entries
+//! that break the rule of 02 on signed samples.
 
 use crate::matrix::MATRIX_HEADER;
 use crate::program::PROGRAM_HEADER;
 use crate::record::field;
+
+/// Entries that are no signed sample: next to the smallest and the largest, two whose low 8 bits are
+/// one, next to the miss, its opposite, and the least of all.
+pub const NO_SAMPLES: [i16; 7] = [-128, 128, 255, -255, 32_766, -32_767, -32_768];
 
 /// One edit of a file.
 #[derive(Clone, Debug, PartialEq, Eq)]

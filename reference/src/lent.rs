@@ -8,7 +8,9 @@
 use crate::lanes::MISS;
 use crate::machine::Run;
 use crate::refusal::Answer;
-use crate::{compiler, draws, lanes, machine, matrix, program, walk as walks, weights as shares};
+use crate::{
+    compiler, draws, lanes, machine, matrix, program, walk as walks, weights as shares, wide,
+};
 
 /// Returned where an operation was carried out.
 pub const DONE: u32 = 0;
@@ -188,4 +190,18 @@ pub fn draw(program: &[u8], strings: &[u8], samples: &mut [u8]) -> u32 {
 pub fn draw_signed(program: &[u8], strings: &[u8], sign: u64, samples: &mut [i16]) -> u32 {
     let answer = draws::draw_signed(program, strings, sign, samples.len());
     settle(answer, |laid| lay(&laid, samples))
+}
+
+/// Combining four lists of signed samples.
+pub fn combine(
+    x1: &[i16],
+    x2: &[i16],
+    x3: &[i16],
+    x4: &[i16],
+    first: u32,
+    second: u32,
+    results: &mut [i32],
+) -> u32 {
+    let answer = wide::combine(x1, x2, x3, x4, first, second, results.len());
+    settle(answer, |laid| lay(&laid, results))
 }

@@ -1,11 +1,14 @@
-//! A generator with a fixed seed, and the inputs that are made with it: matrices, strings,
-//! programs, words.
+//! A generator with a fixed seed, and the inputs that are made with it: matrices, strings, lists of
+//! signed samples, programs, words.
 
+use crate::damage::NO_SAMPLES;
+use crate::lanes::{LANES, SIGNED_MISS};
 use crate::matrix::{Matrix, MOST_COLUMNS, MOST_ROWS};
 use crate::natural::Natural;
 use crate::program::{Header, Instruction, Operation, Program, Role};
 use crate::record::pack;
 use crate::walk::{place_after_column, Place};
+use crate::wide::MOST_SAMPLE;
 
 /// The generator splitmix64: the same seed gives the same numbers everywhere.
 #[derive(Clone, Debug)]
@@ -231,6 +234,27 @@ pub fn packed_strings(random: &mut Random, columns: usize, number: usize) -> Vec
     (0..number)
         .flat_map(|_| pack(&random.bits(columns)))
         .collect()
+}
+
+/// A list of signed samples: small ones, ones of any size or the largest; none of them a miss, some
+/// or all.
+pub fn signed_samples(random: &mut Random, number: usize) -> Vec<i16> {
+    let most = random.pick(&[1, 20, MOST_SAMPLE, MOST_SAMPLE]);
+    let largest = random.once_in(4);
+    let misses = random.pick(&[0, 0, 0, 1, 8, LANES]);
+    let entry = |random: &mut Random| match largest {
+        _ if random.below(LANES) < misses => SIGNED_MISS,
+        true => random.pick(&[-most, most]),
+        false => random.between(0, 2 * most as usize) as i16 - most,
+    };
+    (0..number).map(|_| entry(random)).collect()
+}
+
+/// An entry that is no signed sample: one that may be taken for one, or any.
+pub fn no_sample(random: &mut Random) -> i16 {
+    let far = random.between(MOST_SAMPLE as usize + 1, SIGNED_MISS as usize - 1) as i16;
+    let some = random.pick(&NO_SAMPLES);
+    random.pick(&[some, far, -far])
 }
 
 /// An accepted program with `body` instructions and as many more as set the outputs that are left.

@@ -1,4 +1,4 @@
-//! 01, "The engine's no": the numbers of the refusals.
+//! 01, "The engine's no", and 02: the numbers of the refusals.
 
 /// What an operation comes to: its result, or the number of its refusal.
 pub type Answer<T> = Result<T, u32>;
@@ -11,7 +11,7 @@ pub const KIND: u32 = 2;
 pub const SIZE: u32 = 3;
 /// A length field that is not what the header requires, or bytes left over.
 pub const LENGTH: u32 = 4;
-/// A spare bit that is set, or an entry that is neither 0 nor 1.
+/// A spare bit that is set, an entry that is neither 0 nor 1, or one that is no signed sample.
 pub const BIT: u32 = 5;
 /// T above 2^n.
 pub const TOTAL: u32 = 6;
@@ -29,6 +29,8 @@ pub const WEIGHTLESS: u32 = 11;
 pub const POSITION: u32 = 12;
 /// A lent buffer too short for its input or its result.
 pub const BUFFER: u32 = 13;
+/// A multiplier outside its range.
+pub const MULTIPLIER: u32 = 14;
 
 /// One check: refuses with `number` where `fault` holds.
 pub fn refuse(number: u32, fault: bool) -> Answer<()> {

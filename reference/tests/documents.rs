@@ -1,12 +1,14 @@
 //! The tables of the source documents, and what the documents say of them.
 
 use reference::compiler::translate;
+use reference::draws::draw_signed;
 use reference::matrix::{check, Matrix};
 use reference::natural::Natural;
 use reference::random::{self, Random};
 use reference::tables::{document_001, document_002, document_004};
 use reference::vectors::line::Hash;
 use reference::walk::{place_after, spent, used_by_all, walk_bits, Place};
+use reference::wide::{combine, combined_misses, result_counts};
 
 fn bits_of(text: &str) -> Vec<u8> {
     text.bytes().map(|digit| digit - b'0').collect()
@@ -117,6 +119,54 @@ fn bits_spent_by_002() {
     assert_eq!(mean_used(&matrix), Natural::from(48_806));
     // 40,000 times the mean, give or take six times the deviation, which is 200 × 1.701.
     assert!(spent_by_batches(&matrix, 2).abs_diff(195_225) < 2_042);
+}
+
+/// Section 4.1: four samples of deviation 6.15543 make one of 215, with k2 = 3 and k1 = 11. Over all
+/// strings and signs that hit it is 215.000.
+#[test]
+fn deviation_of_four_samples_of_002() {
+    let matrix = document_002();
+    let counts = result_counts([&matrix; 4], 3, 11);
+    let (mut hits, mut squares) = (Natural::zero(), Natural::zero());
+    for (result, times) in &counts {
+        assert_eq!(counts.get(&-result), Some(times));
+        let square = Natural::from(result.unsigned_abs().pow(2));
+        hits = hits.plus(times);
+        squares = squares.plus(&times.times(&square));
+    }
+    // Between 214.9995 and 215.0005, of which the double thousandfold is squared.
+    let scaled = squares.times(&Natural::from(4_000_000));
+    let times_square = |number: u64| hits.times(&Natural::from(number * number));
+    assert!(times_square(429_999) < scaled && scaled < times_square(430_001));
+    // The largest row above 0 is 81, and (81 + 3 × 81) + 11 × (81 + 3 × 81) = 3,888.
+    assert_eq!(
+        counts.last_key_value().map(|(result, _)| *result),
+        Some(3_888)
+    );
+    // 2^516 choices, of which those with four hits are (2 T)^4.
+    let all = Natural::power_of_two(4 * 129);
+    assert_eq!(hits.plus(&combined_misses([&matrix; 4])), all);
+}
+
+/// 100 batches of 64 results: the mean of their squares is 215^2, give or take six times its
+/// deviation, which for a Gaussian is 215^2 × (2 / 6,400)^(1/2) = 817.
+#[test]
+fn batches_of_002_combined() {
+    let program = translate(&document_002()).encode();
+    let mut random = Random::new(3);
+    let mut squares = 0;
+    for _ in 0..100 {
+        let [x1, x2, x3, x4] = [(); 4].map(|()| {
+            let strings = random::packed_strings(&mut random, 128, 64);
+            draw_signed(&program, &strings, random.word(), 64).unwrap()
+        });
+        let results = combine(&x1, &x2, &x3, &x4, 3, 11, 64).unwrap();
+        squares += results
+            .iter()
+            .map(|result| i64::from(*result).pow(2))
+            .sum::<i64>();
+    }
+    assert!((squares / 6_400).abs_diff(215 * 215) < 6 * 817);
 }
 
 #[test]

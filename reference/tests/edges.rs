@@ -13,6 +13,7 @@ use reference::record::put;
 use reference::refusal::Answer;
 use reference::walk::{spent, walk, Walked};
 use reference::weights::build;
+use reference::wide::combine;
 
 fn file_of(rows: &[&str]) -> Vec<u8> {
     Matrix::from_texts(rows).encode()
@@ -433,4 +434,148 @@ fn lister_refuses_long_files() {
     assert_eq!(lister(&long), "refused 4\n");
     // The first 65,536 bytes are enough to tell.
     assert_eq!(lister(&long[..65_536]), "refused 4\n");
+}
+
+/// Four lists and two multipliers that are sound, with room for the results.
+#[derive(Clone)]
+struct Four {
+    lists: [Vec<i16>; 4],
+    multipliers: [u32; 2],
+    results_lent: usize,
+}
+
+impl Four {
+    fn new() -> Self {
+        Four {
+            lists: [1, 2, 3, 4].map(|entry| vec![entry; 64]),
+            multipliers: [3, 11],
+            results_lent: 64,
+        }
+    }
+
+    /// The same, changed.
+    fn but(&self, change: impl FnOnce(&mut Four)) -> Four {
+        let mut changed = self.clone();
+        change(&mut changed);
+        changed
+    }
+
+    fn combined(&self) -> Answer<Vec<i32>> {
+        let [x1, x2, x3, x4] = &self.lists;
+        let [first, second] = self.multipliers;
+        combine(x1, x2, x3, x4, first, second, self.results_lent)
+    }
+
+    /// Each buffer one short: a list, or the results.
+    fn cut(&self) -> [Four; 5] {
+        [0, 1, 2, 3, 4].map(|buffer| {
+            self.but(|four| match four.lists.get_mut(buffer) {
+                Some(list) => list.truncate(63),
+                None => four.results_lent = 63,
+            })
+        })
+    }
+}
+
+#[test]
+fn combine_takes_multipliers_of_1_to_1000() {
+    for at in [0, 1] {
+        let with = |multiplier: u32| Four::new().but(|four| four.multipliers[at] = multiplier);
+        for within in [1, 2, 3, 999, 1_000] {
+            // (1 + 2 first) + second × (3 + 4 first)
+            let [first, second] = with(within).multipliers.map(|number| number as i32);
+            let result = 1 + 2 * first + second * (3 + 4 * first);
+            assert_eq!(with(within).combined(), Ok(vec![result; 64]));
+        }
+        for outside in [0, 1_001, 65_536, 65_537, 66_536, 1 << 31, u32::MAX] {
+            assert_eq!(with(outside).combined(), Err(14));
+        }
+    }
+}
+
+#[test]
+fn combine_needs_64_entries_and_room_for_64_results() {
+    let sound = Four::new();
+    let results = sound.combined().unwrap();
+    assert_eq!(results.len(), 64);
+    for cut in sound.cut() {
+        assert_eq!(cut.combined(), Err(13));
+    }
+    for length in [0, 1, 63] {
+        for list in 0..4 {
+            let short = sound.but(|four| four.lists[list].truncate(length));
+            assert_eq!(short.combined(), Err(13));
+        }
+        let short = sound.but(|four| four.results_lent = length);
+        assert_eq!(short.combined(), Err(13));
+    }
+    for length in [65, 66, usize::MAX] {
+        let longer = sound.but(|four| four.results_lent = length);
+        assert_eq!(longer.combined().as_ref(), Ok(&results));
+    }
+    // What lies after the 64 entries is not tried.
+    for list in 0..4 {
+        for entry in [0, 128, -32_768] {
+            let longer = sound.but(|four| four.lists[list].push(entry));
+            assert_eq!(longer.combined().as_ref(), Ok(&results));
+        }
+    }
+}
+
+/// A lane of the sound lists gives (1 + 6) + 11 × (3 + 12) = 172.
+#[test]
+fn combine_tries_every_entry() {
+    let sound = Four::new();
+    for (list, part) in [1, 3, 11, 33].into_iter().enumerate() {
+        for lane in 0..64 {
+            let with = |entry: i16| sound.but(|four| four.lists[list][lane] = entry).combined();
+            for entry in [-127, 0, 127] {
+                let change = i32::from(entry) - list as i32 - 1;
+                let results = with(entry).unwrap();
+                assert_eq!(results[lane], 172 + part * change);
+                assert_eq!(results.iter().filter(|&&result| result == 172).count(), 63);
+            }
+            assert_eq!(with(32_767).unwrap()[lane], 2_147_483_647);
+            for entry in [-128, 128, -255, 255, 256, 32_766, -32_767, -32_768] {
+                assert_eq!(with(entry), Err(5));
+            }
+        }
+    }
+}
+
+/// A miss in the same lane, or in all the others, hides no entry that is no sample.
+#[test]
+fn combine_tries_entries_beside_a_miss() {
+    for list in 0..4 {
+        let missed = Four::new().but(|four| four.lists = [(); 4].map(|()| vec![32_767; 64]));
+        assert_eq!(missed.combined(), Ok(vec![2_147_483_647; 64]));
+        for (lane, entry) in [(0, -32_767), (31, 128), (63, -32_768)] {
+            let unsound = missed.but(|four| four.lists[list][lane] = entry);
+            assert_eq!(unsound.combined(), Err(5));
+        }
+    }
+}
+
+#[test]
+fn combine_tries_multipliers_then_lengths_then_entries() {
+    let sound = Four::new();
+    for list in 0..4 {
+        let unsound = sound.but(|four| four.lists[list][0] = 128);
+        assert_eq!(unsound.combined(), Err(5));
+        for cut in unsound.cut() {
+            assert_eq!(cut.combined(), Err(13));
+        }
+        for multipliers in [[0, 11], [3, 1_001], [1_001, 0]] {
+            let outside = unsound.but(|four| four.multipliers = multipliers);
+            assert_eq!(outside.combined(), Err(14));
+            for cut in outside.cut() {
+                assert_eq!(cut.combined(), Err(14));
+            }
+        }
+    }
+    for outside in [0, 1_001] {
+        assert_eq!(combine(&[], &[], &[], &[], outside, 11, 0), Err(14));
+        assert_eq!(combine(&[], &[], &[], &[], 3, outside, 0), Err(14));
+    }
+    assert_eq!(combine(&[], &[], &[], &[], 3, 11, 0), Err(13));
 }

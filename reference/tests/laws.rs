@@ -14,6 +14,8 @@ use reference::random::{self, Random};
 use reference::record::{pack, unpack};
 use reference::walk::{place_after, spent, used_by_all, walk, walk_bits, Place};
 use reference::weights::build;
+use reference::wide::{combine, combined_misses, result_counts, signed_counts, Counts};
+use std::collections::BTreeMap;
 
 /// Rows and columns of at most so many entries.
 fn small_sizes(most: usize) -> impl Iterator<Item = (usize, usize)> {
@@ -190,6 +192,172 @@ fn programs_serve_a_lane_where_its_walk_hits() {
     }
 }
 
+/// What the walk gives, as a signed sample.
+fn signed(row: Option<usize>, negated: bool) -> i16 {
+    match row {
+        None => 32_767,
+        Some(row) if negated => -(row as i16),
+        Some(row) => row as i16,
+    }
+}
+
+/// The signed samples of all strings of a table, each with both signs.
+fn signed_walks(table: &Matrix) -> Vec<i16> {
+    let both = |bits: Vec<u8>| {
+        let row = walk_bits(table, &bits).row;
+        [signed(row, false), signed(row, true)]
+    };
+    all_strings(table.columns).flat_map(both).collect()
+}
+
+/// How often each number is among these.
+fn counts<T: Ord + Copy + Into<i64>>(numbers: &[T]) -> Counts {
+    let mut counts: BTreeMap<T, u64> = BTreeMap::new();
+    for &number in numbers {
+        *counts.entry(number).or_default() += 1;
+    }
+    let each = counts.into_iter();
+    each.map(|(number, times)| (number.into(), Natural::from(times)))
+        .collect()
+}
+
+/// The results of every choice of four signed samples, one of each of the lists, 64 at a time.
+fn results_of_all(each: &[Vec<i16>; 4], first: u32, second: u32) -> Vec<i32> {
+    let mut lists = [(); 4].map(|()| Vec::new());
+    for choice in 0..each.iter().map(Vec::len).product() {
+        let mut rest: usize = choice;
+        for (list, samples) in lists.iter_mut().zip(each) {
+            list.push(samples[rest % samples.len()]);
+            rest /= samples.len();
+        }
+    }
+    let [x1, x2, x3, x4] = lists.each_ref().map(|list| list.chunks(64));
+    let batches = x1.zip(x2).zip(x3.zip(x4));
+    batches
+        .flat_map(|((x1, x2), (x3, x4))| combine(x1, x2, x3, x4, first, second, 64).unwrap())
+        .collect()
+}
+
+/// For every result the sum, over the four samples that give it, of the products of their counts.
+fn sums_of_products(tables: [&Matrix; 4], first: i64, second: i64) -> Counts {
+    let mut sums = Counts::new();
+    let [c1, c2, c3, c4] = tables.map(signed_counts);
+    for (x1, n1) in &c1 {
+        for (x2, n2) in &c2 {
+            for (x3, n3) in &c3 {
+                for (x4, n4) in &c4 {
+                    let result = (x1 + first * x2) + second * (x3 + first * x4);
+                    let product = n1.times(n2).times(n3).times(n4);
+                    let sum = sums.entry(result).or_default();
+                    *sum = sum.plus(&product);
+                }
+            }
+        }
+    }
+    sums
+}
+
+/// 02, order 2, on four tables, over all their strings and signs: each result comes as often as the
+/// sum of the products of the parts' counts says, and all other choices miss. Answers how many do.
+fn results_are_right(tables: [&Matrix; 4], first: u32, second: u32) -> Natural {
+    let each = tables.map(signed_walks);
+    for (table, samples) in tables.iter().zip(&each) {
+        let mut counted = counts(samples);
+        let missed = counted.remove(&32_767).unwrap_or_default();
+        assert_eq!(counted, signed_counts(table));
+        assert_eq!(missed, table.misses().shifted_up(1));
+    }
+    let mut counted = counts(&results_of_all(&each, first, second));
+    let missed = counted.remove(&2_147_483_647).unwrap_or_default();
+    let sums = sums_of_products(tables, i64::from(first), i64::from(second));
+    assert_eq!(counted, sums);
+    assert_eq!(result_counts(tables, first, second), sums);
+    assert_eq!(missed, combined_misses(tables));
+    missed
+}
+
+/// With equal multipliers, or with 1, many choices give the same result; with others few do.
+const MULTIPLIERS: [(u32, u32); 5] = [(3, 11), (1, 1), (2, 2), (1, 1_000), (1_000, 1_000)];
+
+#[test]
+fn results_come_as_often_as_products_of_counts() {
+    let full = Matrix::from_texts(&["10", "01", "01"]);
+    let thirds = Matrix::from_texts(&["01", "01", "01"]);
+    let late = Matrix::from_texts(&["001", "000", "010", "011"]);
+    let (zero, coin) = (Matrix::from_texts(&["1"]), Matrix::from_texts(&["1", "1"]));
+    let none = Matrix::from_texts(&["0"]);
+    for (first, second) in MULTIPLIERS {
+        assert!(results_are_right([&full; 4], first, second).is_zero());
+        // 8^4 choices, of which 6^4 hit.
+        let missed = Natural::from(4_096 - 1_296);
+        assert_eq!(results_are_right([&thirds; 4], first, second), missed);
+        for tables in [
+            [&late, &zero, &coin, &thirds],
+            [&coin, &thirds, &zero, &late],
+        ] {
+            // 16 × 4 × 4 × 8 choices, of which 12 × 2 × 4 × 6 hit.
+            let missed = Natural::from(2_048 - 576);
+            assert_eq!(results_are_right(tables, first, second), missed);
+        }
+        // 4 × 8^3 choices, and none hits.
+        let missed = results_are_right([&full, &none, &full, &full], first, second);
+        assert_eq!(missed, Natural::from(2_048));
+    }
+}
+
+#[test]
+fn results_of_random_tables_come_as_often_as_products_of_counts() {
+    let mut random = Random::new(22);
+    for case in 0..60 {
+        let columns = random.pick(&[[2, 2, 2, 2], [3, 1, 2, 2], [1, 3, 1, 3], [1, 1, 4, 1]]);
+        let tables = columns.map(|columns| {
+            let rows = random.between(1, 6);
+            random::matrix(&mut random, rows, columns)
+        });
+        let (first, second) = MULTIPLIERS[case % 5];
+        results_are_right(tables.each_ref(), first, second);
+    }
+}
+
+/// Batches that compiled programs draw, and lists of any signed samples.
+#[test]
+fn results_are_the_formula_or_the_miss() {
+    let mut random = Random::new(23);
+    let (mut values, mut misses) = (0, 0);
+    for case in 0..200 {
+        let lists = [(); 4].map(|()| match case % 4 {
+            0 => drawn_list(&mut random),
+            _ => random::signed_samples(&mut random, 64),
+        });
+        let multiplier = |random: &mut Random| random.pick(&[1, 2, 3, 11, 500, 999, 1_000]);
+        let (first, second) = (multiplier(&mut random), multiplier(&mut random));
+        let [x1, x2, x3, x4] = &lists;
+        let results = combine(x1, x2, x3, x4, first, second, 64).unwrap();
+        let (first, second) = (first as i32, second as i32);
+        for (lane, &result) in results.iter().enumerate() {
+            let entries = lists.each_ref().map(|list| i32::from(list[lane]));
+            if entries.contains(&32_767) {
+                assert_eq!(result, 2_147_483_647);
+                misses += 1;
+            } else {
+                let [x1, x2, x3, x4] = entries;
+                assert_eq!(result, (x1 + first * x2) + second * (x3 + first * x4));
+                assert!(result.abs() <= 127_254_127);
+                values += 1;
+            }
+        }
+    }
+    assert!(values > 2_000 && misses > 2_000, "{values} and {misses}");
+}
+
+/// 64 signed samples of a random table.
+fn drawn_list(random: &mut Random) -> Vec<i16> {
+    let matrix = random::any_matrix(random);
+    let program = translate(&matrix).encode();
+    let strings = random::packed_strings(random, matrix.columns, 64);
+    draw_signed(&program, &strings, random.word(), 64).unwrap()
+}
+
 #[test]
 fn files_are_read_and_written_alike() {
     let mut random = Random::new(12);
@@ -297,20 +465,16 @@ fn draws_are_walks() {
         let strings = random::strings(&mut random, &matrix);
         let sign = random.word();
         let plain = draw(&program, &strings, 64).unwrap();
-        let signed = draw_signed(&program, &strings, sign, 64).unwrap();
+        let with_signs = draw_signed(&program, &strings, sign, 64);
         let words = slice(columns, &strings, columns).unwrap();
         let run = start(&program, &words, 1_024, 8, u32::MAX).unwrap();
         assert_eq!(samples(&run.outputs, 64).as_ref(), Ok(&plain));
-        assert_eq!(signed_samples(&run.outputs, sign, 64).as_ref(), Ok(&signed));
+        assert_eq!(signed_samples(&run.outputs, sign, 64), with_signs);
+        let with_signs = with_signs.unwrap();
         for (lane, string) in strings.chunks(columns.div_ceil(8)).enumerate() {
             let row = walk(&file, string).unwrap().row;
             assert_eq!(plain[lane], row.map_or(255, |row| row as u8));
-            let expected = match row {
-                None => 32_767,
-                Some(row) if sign >> lane & 1 == 1 => -(row as i16),
-                Some(row) => row as i16,
-            };
-            assert_eq!(signed[lane], expected);
+            assert_eq!(with_signs[lane], signed(row, sign >> lane & 1 == 1));
         }
     }
 }
@@ -425,4 +589,25 @@ fn lent_numbers_are_untouched_by_a_refusal() {
     assert_eq!(spent(&file[..10], &[0xc0; 64]), (1, 99));
     assert_eq!(spent(&file, &[0xc0; 63]), (13, 99));
     assert_eq!(spent(&file, &[0x20; 64]), (5, 99));
+}
+
+/// Results are laid over the first 64 numbers alone, and by a refusal over none.
+#[test]
+fn lent_results_are_untouched_by_a_refusal() {
+    let combined = |x4: &[i16], second: u32, lent: usize| {
+        let mut results = [77; 66];
+        let [x1, x2, x3] = [5, -2, 7].map(|entry| [entry; 64]);
+        let returned = lent::combine(&x1, &x2, &x3, x4, 3, second, &mut results[..lent]);
+        (returned, results)
+    };
+    let mut results = [109; 66];
+    results[64..].fill(77);
+    assert_eq!(combined(&[1; 65], 11, 66), (0, results));
+    assert_eq!(combined(&[1; 64], 11, 64), (0, results));
+    assert_eq!(combined(&[1; 64], 1_001, 66), (14, [77; 66]));
+    assert_eq!(combined(&[1; 63], 11, 66), (13, [77; 66]));
+    assert_eq!(combined(&[1; 64], 11, 63), (13, [77; 66]));
+    let mut x4 = [1; 64];
+    x4[63] = 128;
+    assert_eq!(combined(&x4, 11, 66), (5, [77; 66]));
 }

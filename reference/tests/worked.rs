@@ -1,14 +1,16 @@
-//! 01, "Checked by hand": every case, with the answers that stand there. 02, order 1: the columns
-//! that these walks use, by hand.
+//! 01, "Checked by hand": every case, with the answers that stand there. 02, by hand: order 1, the
+//! columns that these walks use; order 2, results of four samples.
 
 use reference::compiler::{compile, translate};
 use reference::listing::lister;
 use reference::machine::{resume, start};
 use reference::matrix::{check, read, write, Matrix};
+use reference::natural::Natural;
 use reference::program;
 use reference::refusal::Answer;
 use reference::walk::{spent, walk, Walked};
 use reference::weights::build;
+use reference::wide::{combine, combined_misses, result_counts, signed_counts, Counts};
 
 fn file_of(rows: &[&str]) -> Vec<u8> {
     Matrix::from_texts(rows).encode()
@@ -195,4 +197,86 @@ fn rows_are_met_from_the_last_down() {
     let run = start(&program, &[0b1100, 0b1010], 14, 3, u32::MAX).unwrap();
     let lanes: Vec<u64> = run.outputs.iter().map(|word| word & 15).collect();
     assert_eq!(lanes, [0b1111, 0b1000, 0b0100]);
+}
+
+/// The results of lanes that all have these four entries.
+fn combined(entries: [i16; 4], first: u32, second: u32) -> Answer<Vec<i32>> {
+    let [x1, x2, x3, x4] = entries.map(|entry| [entry; 64]);
+    combine(&x1, &x2, &x3, &x4, first, second, 64)
+}
+
+#[test]
+fn four_samples_are_combined() {
+    for (entries, first, second, result) in [
+        // (5 - 6) + 11 × (7 + 3) = -1 + 110, as source document 002 multiplies.
+        ([5, -2, 7, 1], 3, 11, 109),
+        // Each part by itself.
+        ([1, 0, 0, 0], 3, 11, 1),
+        ([0, 1, 0, 0], 3, 11, 3),
+        ([0, 0, 1, 0], 3, 11, 11),
+        ([0, 0, 0, 1], 3, 11, 33),
+        ([0, 0, 0, 0], 3, 11, 0),
+        // (2 + 55) + 3 × (-4 + 11) = 57 + 21
+        ([2, 5, -4, 1], 11, 3, 78),
+        ([1, 2, 3, 4], 1, 1, 10),
+        // (127 + 127,000) + 1,000 × (127 + 127,000) = 127,127 + 127,127,000, and what is opposite.
+        ([127, 127, 127, 127], 1_000, 1_000, 127_254_127),
+        ([-127, -127, -127, -127], 1_000, 1_000, -127_254_127),
+        // (127 - 127,000) + 1,000 × (127 - 127,000) = -126,873 - 126,873,000
+        ([127, -127, 127, -127], 1_000, 1_000, -126_999_873),
+    ] {
+        assert_eq!(combined(entries, first, second), Ok(vec![result; 64]));
+    }
+}
+
+#[test]
+fn a_miss_of_any_part_is_the_result() {
+    for list in 0..4 {
+        let mut entries = [5, -2, 7, 1];
+        entries[list] = 32_767;
+        assert_eq!(combined(entries, 3, 11), Ok(vec![2_147_483_647; 64]));
+    }
+    assert_eq!(combined([32_767; 4], 1, 1), Ok(vec![2_147_483_647; 64]));
+    // Lane 1 has a miss, and no other lane is any the worse.
+    let mut x3 = [7; 64];
+    x3[1] = 32_767;
+    let results = combine(&[5; 64], &[-2; 64], &x3, &[1; 64], 3, 11, 64).unwrap();
+    assert_eq!(results[..3], [109, 2_147_483_647, 109]);
+    assert_eq!(results[3..], [109; 61]);
+}
+
+/// 02: 14, then 13, then 5.
+#[test]
+fn what_can_not_be_combined() {
+    let (list, short) = ([1; 64], [1; 63]);
+    assert_eq!(combined([1; 4], 0, 11), Err(14));
+    assert_eq!(combined([1; 4], 3, 1_001), Err(14));
+    assert_eq!(combine(&list, &list, &short, &list, 3, 11, 64), Err(13));
+    assert_eq!(combine(&list, &list, &list, &list, 3, 11, 63), Err(13));
+    assert_eq!(combined([1, 1, 1, 128], 3, 11), Err(5));
+    assert_eq!(combined([-128, 1, 1, 1], 3, 11), Err(5));
+}
+
+fn counts_of(counts: &[(i64, u64)]) -> Counts {
+    let each = counts.iter();
+    each.map(|&(number, times)| (number, Natural::from(times)))
+        .collect()
+}
+
+/// Rows 10, 01, 01, where two strings give 0, each with both signs; and a coin, whose counts 1, 2, 1
+/// of -1, 0, 1 make the binomial numbers of 8 where four of them are added up.
+#[test]
+fn counts_of_samples_and_results() {
+    let three = Matrix::from_texts(&["10", "01", "01"]);
+    let counts = counts_of(&[(-2, 1), (-1, 1), (0, 4), (1, 1), (2, 1)]);
+    assert_eq!(signed_counts(&three), counts);
+    let coin = Matrix::from_texts(&["1", "1"]);
+    let sums = (-4..).zip([1, 8, 28, 56, 70, 56, 28, 8, 1]);
+    let sums: Vec<(i64, u64)> = sums.collect();
+    assert_eq!(result_counts([&coin; 4], 1, 1), counts_of(&sums));
+    assert!(combined_misses([&coin; 4]).is_zero());
+    // Each part is 0 or misses: of its four choices of a string and a sign two hit.
+    let zero = Matrix::from_texts(&["1"]);
+    assert_eq!(result_counts([&zero; 4], 3, 11), counts_of(&[(0, 16)]));
+    assert_eq!(combined_misses([&zero; 4]), Natural::from(256 - 16));
 }

@@ -113,6 +113,15 @@ uint32_t through_draw_signed(const uint8_t *program, size_t program_length, cons
 }
 SAME_TYPE(draw_signed);
 
+/* ---- wide bells ---- */
+
+uint32_t through_combine(const int16_t *x1, size_t x1_length, const int16_t *x2, size_t x2_length, const int16_t *x3, size_t x3_length,
+                         const int16_t *x4, size_t x4_length, uint32_t first, uint32_t second, int32_t *results, size_t results_length)
+{
+    return corkhollow_combine(x1, x1_length, x2, x2_length, x3, x3_length, x4, x4_length, first, second, results, results_length);
+}
+SAME_TYPE(combine);
+
 /* ---- numbers, in the order of src/numbers.rs ---- */
 
 const uint64_t through_numbers[] = {
@@ -130,6 +139,7 @@ const uint64_t through_numbers[] = {
     CORKHOLLOW_WEIGHTLESS,
     CORKHOLLOW_POSITION,
     CORKHOLLOW_BUFFER,
+    CORKHOLLOW_MULTIPLIER,
     CORKHOLLOW_LANES,
     CORKHOLLOW_ROWS,
     CORKHOLLOW_COLUMNS,
@@ -137,8 +147,10 @@ const uint64_t through_numbers[] = {
     CORKHOLLOW_INPUTS,
     CORKHOLLOW_OUTPUTS,
     CORKHOLLOW_INSTRUCTIONS,
+    CORKHOLLOW_MOST_MULTIPLIER,
     CORKHOLLOW_MISS,
     CORKHOLLOW_SIGNED_MISS,
+    CORKHOLLOW_COMBINED_MISS,
     CORKHOLLOW_MOST_ENTRIES,
     CORKHOLLOW_MOST_MATRIX_BYTES,
     CORKHOLLOW_MOST_PROGRAM_BYTES,

@@ -1,11 +1,13 @@
 /*
- * Under valgrind's memcheck: marks strings, words, outputs and sign as undefined and runs each operation. memcheck counts every jump and
- * every address that depends on an undefined bit: there must be none, but in the operations that choose by the random bits, in which
- * there must be some. What an operation leaves must be undefined in turn, so that it did work on the marked bits.
+ * Under valgrind's memcheck: marks strings, words, outputs, sign and signed samples as undefined and runs each operation. memcheck counts
+ * every jump and every address that depends on an undefined bit: there must be none, but in the operations that choose by the random bits,
+ * in which there must be some, and in combining, in which there must be one to four: whether it refuses a list. What an operation leaves
+ * must be undefined in turn, so that it did work on the marked bits.
  * usage: marked COLUMNS
  */
 #include "operations.h"
 
+#include <inttypes.h>
 #include <stdio.h>
 #include <stdlib.h>
 #include <valgrind/memcheck.h>
@@ -24,14 +26,16 @@ static bool as_it_must(const struct operation *o, struct batch *b) {
     VALGRIND_MAKE_MEM_UNDEFINED(b->words, sizeof b->words);
     VALGRIND_MAKE_MEM_UNDEFINED(b->outputs, sizeof b->outputs);
     VALGRIND_MAKE_MEM_UNDEFINED(&b->sign, sizeof b->sign);
+    VALGRIND_MAKE_MEM_UNDEFINED(b->lists, sizeof b->lists);
     VALGRIND_MAKE_MEM_DEFINED(o->result, o->size);
     unsigned before = VALGRIND_COUNT_ERRORS;
     o->run(b);
     unsigned choices = VALGRIND_COUNT_ERRORS - before;
     size_t marked = undefined_bytes(o->result, o->size);
     printf("%-18s %7u %10zu of %4zu\n", o->name, choices, marked, o->size);
-    if ((choices != 0) == o->chooses && marked == o->size) return true;
-    printf("%s: it is meant %s choose by the bits, and all that it leaves to depend on them\n", o->name, o->chooses ? "to" : "not to");
+    if (choices >= o->least && choices <= o->most && marked == o->size) return true;
+    printf("%s: it is meant to choose by the bits %" PRIu32 " to %" PRIu32 " times, and all that it leaves to depend on them\n", o->name,
+           o->least, o->most);
     return false;
 }
 

@@ -7,6 +7,7 @@ static size_t matrix_length, program_length, n_columns, n_registers, n_inputs, n
 static uint64_t sliced[CORKHOLLOW_COLUMNS], registers[CORKHOLLOW_REGISTERS], outputs[CORKHOLLOW_OUTPUTS];
 static uint8_t samples[CORKHOLLOW_LANES];
 static int16_t signed_samples[CORKHOLLOW_LANES];
+static int32_t results[CORKHOLLOW_LANES];
 static uint32_t refused;
 
 static void start_within(const struct batch *b, uint32_t budget, uint32_t *position) {
@@ -58,17 +59,24 @@ static void spent(const struct batch *b) {
     refused |= corkhollow_spent(matrix, matrix_length, b->strings, b->strings_length, &total);
 }
 
+static void combine(const struct batch *b) {
+    refused |= corkhollow_combine(b->lists[0], CORKHOLLOW_LANES, b->lists[1], CORKHOLLOW_LANES, b->lists[2], CORKHOLLOW_LANES, b->lists[3],
+                                  CORKHOLLOW_LANES, 3, 11, results, CORKHOLLOW_LANES);
+}
+
+/* Combining chooses whether the entries of a list are refused: at most once a list, and once at least, or they would not be tried. */
 struct operation operations[OPERATIONS] = {
-    {"start", start, false, outputs, 0},
-    {"stop and resume", stop_and_resume, false, outputs, 0},
-    {"slice", slice, false, sliced, 0},
-    {"samples", read_samples, false, samples, sizeof samples},
-    {"signed_samples", read_signed, false, signed_samples, sizeof signed_samples},
-    {"draw", draw, false, samples, sizeof samples},
-    {"draw_signed", draw_signed, false, signed_samples, sizeof signed_samples},
-    {"slice, spare bits", slice_spare, true, NULL, 0},
-    {"walk", walk, true, NULL, 0},
-    {"spent", spent, true, NULL, 0},
+    {"start", start, 0, 0, outputs, 0},
+    {"stop and resume", stop_and_resume, 0, 0, outputs, 0},
+    {"slice", slice, 0, 0, sliced, 0},
+    {"samples", read_samples, 0, 0, samples, sizeof samples},
+    {"signed_samples", read_signed, 0, 0, signed_samples, sizeof signed_samples},
+    {"draw", draw, 0, 0, samples, sizeof samples},
+    {"draw_signed", draw_signed, 0, 0, signed_samples, sizeof signed_samples},
+    {"combine", combine, 1, LISTS, results, sizeof results},
+    {"slice, spare bits", slice_spare, 1, MANY, NULL, 0},
+    {"walk", walk, 1, MANY, NULL, 0},
+    {"spent", spent, 1, MANY, NULL, 0},
 };
 
 bool program_made(size_t columns) {
@@ -85,6 +93,27 @@ bool program_made(size_t columns) {
     return true;
 }
 
+static void fill_lists(struct batch *b, int16_t entry(void)) {
+    for (int i = 0; i < LISTS; i++) {
+        for (int j = 0; j < CORKHOLLOW_LANES; j++) b->lists[i][j] = entry();
+    }
+}
+
+static int16_t missing_entry(void) { return CORKHOLLOW_SIGNED_MISS; }
+static int16_t zero_entry(void) { return 0; }
+
+static uint64_t next_random(void) {
+    static uint64_t x = 1;
+    x = x * 6364136223846793005u + 1442695040888963407u;
+    return x;
+}
+
+/* -127 to 127, or, once in about eight times, the miss. */
+static int16_t random_entry(void) {
+    uint64_t x = next_random();
+    return x >> 61 == 0 ? CORKHOLLOW_SIGNED_MISS : (int16_t)((x >> 32) % 255) - 127;
+}
+
 static void complete(struct batch *b) {
     b->strings_length = CORKHOLLOW_LANES * CORKHOLLOW_WIDTH(n_columns);
     slice(b);
@@ -95,23 +124,22 @@ static void complete(struct batch *b) {
 
 void missing_batch(struct batch *b) {
     memset(b->strings, 0xff, sizeof b->strings);
+    fill_lists(b, missing_entry);
     b->sign = UINT64_MAX;
     complete(b);
 }
 
 void zero_batch(struct batch *b) {
     memset(b->strings, 0, sizeof b->strings);
+    fill_lists(b, zero_entry);
     b->sign = 0;
     complete(b);
 }
 
 void random_batch(struct batch *b) {
-    static uint64_t x = 1;
-    for (size_t i = 0; i < sizeof b->strings; i++) {
-        x = x * 6364136223846793005u + 1442695040888963407u;
-        b->strings[i] = x >> 56;
-    }
-    b->sign = x;
+    for (size_t i = 0; i < sizeof b->strings; i++) b->strings[i] = next_random() >> 56;
+    fill_lists(b, random_entry);
+    b->sign = next_random();
     complete(b);
 }
 

@@ -1,7 +1,9 @@
-//! Every function of include/corkhollow.rs on 01's example, the rows 10, 01, 01, and on one row 1 of one column. What it must answer is
-//! worked out by hand from 01 and 02, so that this needs nothing but `core`.
+//! Every function of include/corkhollow.rs on 01's example, the rows 10, 01, 01, on one row 1 of one column, or on numbers. What it must
+//! answer is worked out by hand from 01 and 02, so that this needs nothing but `core`.
 
-use crate::corkhollow::{self, Header, Refusal, Run, Walk, LANES, MISS, SIGNED_MISS};
+use crate::corkhollow::{
+    self, Header, Refusal, Run, Walk, COMBINED_MISS, LANES, MISS, SIGNED_MISS,
+};
 
 /// Says which function answered something else.
 pub type Checked = Result<(), &'static str>;
@@ -50,6 +52,7 @@ pub fn all() -> Checked {
     in_one_call(program)?;
     in_parts(program)?;
     a_miss()?;
+    wide_bells()?;
     must("refusal", a_refusal() == Err(Refusal(1)))
 }
 
@@ -168,4 +171,40 @@ fn a_miss() -> Checked {
         "draw_signed",
         drawn == Ok(()) && signed.chunks(2).all(|two| two == [0, SIGNED_MISS]),
     )
+}
+
+/// What a call leaves of 64 results that are 7 before, where every lane has these four entries.
+fn combined(entries: [i16; 4], first: u32, second: u32) -> (Result<(), Refusal>, [i32; LANES]) {
+    let [x1, x2, x3, x4] = entries.map(|entry| [entry; LANES]);
+    let mut results = [7; LANES];
+    let answer = corkhollow::combine(&x1, &x2, &x3, &x4, first, second, &mut results);
+    (answer, results)
+}
+
+/// 02, order 2: (x1 + first × x2) + second × (x3 + first × x4), 14, 13 and 5.
+fn wide_bells() -> Checked {
+    for (entries, first, second, result) in [
+        ([5, -2, 7, 1], 3, 11, 109),             // (5 - 6) + 11 × (7 + 3)
+        ([2, 5, -4, 1], 11, 3, 78),              // (2 + 55) + 3 × (-4 + 11)
+        ([127; 4], 1_000, 1_000, 127_254_127),   // 127,127 + 1,000 × 127,127
+        ([-127; 4], 1_000, 1_000, -127_254_127), // and the opposite
+        ([5, SIGNED_MISS, 7, 1], 3, 11, COMBINED_MISS),
+    ] {
+        let wanted = (Ok(()), [result; LANES]);
+        must("combine", combined(entries, first, second) == wanted)?;
+    }
+    for (entries, first, second, number) in [
+        ([5, -2, 7, 1], 0, 11, 14),
+        ([5, -2, 7, 1], 3, 1_001, 14),
+        ([5, -2, 7, 128], 3, 11, 5),
+    ] {
+        let wanted = (Err(Refusal(number)), [7; LANES]);
+        must("combine", combined(entries, first, second) == wanted)?;
+    }
+    let (list, mut results) = ([1; LANES], [7; LANES]);
+    let short = corkhollow::combine(&list, &list[1..], &list, &list, 3, 11, &mut results);
+    must("combine", short == Err(Refusal(13)))?;
+    let short = corkhollow::combine(&list, &list, &list, &list, 3, 11, &mut results[1..]);
+    let untouched = results == [7; LANES];
+    must("combine", short == Err(Refusal(13)) && untouched)
 }

@@ -1,6 +1,7 @@
 // The fields of a line: numbers and arrays in hexadecimal, one space between any two.
 ghost use Prim.Native.Nat.{_≤_, _<_};
-ghost use lib.ListN.{length};
+ghost use mathlib.Core.Path.{_≡_};
+ghost use lib.ListN.{length, take};
 ghost use Rattle.io.specs.Counts.{Counts};
 
 // The smaller of the two.
@@ -80,6 +81,16 @@ fn byte(text: &[u8]) -> u8 {
     (number(text) % 256) as u8
 }
 
+// A number of 16 bits with a sign, in two's complement: a negative one is the complement of its complement.
+fn signed(text: &[u8]) -> i16 {
+    let x = number(text) % 65536;
+    if x < 32768 {
+        x as i16
+    } else {
+        !((65535 - x) as i16)
+    }
+}
+
 // The `n` digits from `at` on, or as many as are there.
 fn digits(text: &[u8], at: usize, n: usize) -> &[u8] {
     let from = least(at, text.len());
@@ -124,4 +135,17 @@ pub fn take_words(text: &[u8], words: &mut [u64]) -> usize
         words[k] = number(digits(text, 16 * k, 16));
     }
     words.len()
+}
+
+// The same for signed numbers of 16 bits.
+pub fn take_signed(text: &[u8], numbers: &mut [i16]) -> usize
+    ensures { λ r. ⌜ (r ≤ length (now (numbers .exit))) × (r ≡ length (take r (now (numbers .exit)))) ⌝ }
+{
+    for k in 0..numbers.len() {
+        if text.len() / 4 <= k {
+            return k;
+        }
+        numbers[k] = signed(digits(text, 4 * k, 4));
+    }
+    numbers.len()
 }

@@ -21,4 +21,5 @@ pub use runs::corkhollow_resume;
 pub use runs::corkhollow_start;
 pub use samples::corkhollow_samples;
 pub use samples::corkhollow_slice;
+pub use signed::corkhollow_combine;
 pub use signed::corkhollow_signed_samples;

@@ -5,4 +5,9 @@ pub mod Demand2
 pub mod Demand3
 pub mod Batches
 pub mod Draws
+pub mod Choices
+pub mod Values
+pub mod Parts
+pub mod Wide
+pub mod WideDraws
 pub mod Cases

@@ -1,8 +1,8 @@
-// The engine's refusals (01, "The engine's no").
+// The engine's refusals (01, "The engine's no"; 02).
 ghost use mathlib.Core.Path.{_≡_};
 ghost use Rattle.fields.specs.Refusal.{numberOf};
 
-// A name for each row of the table, in its order.
+// A name for each row of the table, in its order, then those that 02 adds.
 pub enum Refusal {
     Short,
     Kind,
@@ -17,6 +17,7 @@ pub enum Refusal {
     Weightless,
     Position,
     Buffer,
+    Multiplier,
 }
 
 // A refusal, or the number of bytes written.
@@ -43,5 +44,6 @@ pub fn number(refusal: Refusal) -> u32
         Refusal::Weightless => 11,
         Refusal::Position => 12,
         Refusal::Buffer => 13,
+        Refusal::Multiplier => 14,
     }
 }

@@ -8,7 +8,7 @@ use native.Mathlib.Nat.{eq-or-lt-of-le, mul-le-mul-left, mul-one, mul-zero}
 use native.Mathlib.Omega.{arith}
 use borrow.Author.Tests.{lt-ltb, le-ltb}
 use mir.Facts.{toZ-pos, toZ-ofZ}
-use mir.Syntax.{w16}
+use mir.Syntax.{Width, w16}
 use mir.Val.{SFits, toZ, ofZ}
 use lib.Bits.{bitAnd, bitOr, or-lt}
 use lib.Dec.{eqb, ltb, lit<}
@@ -237,9 +237,9 @@ lanes-read outputs sign rows now few p e =
     rw e (record { plain = read-plain outputs sign rows few p; signed = read-signed outputs sign rows few p })
 
 -- ---- negation in 16 bits
--- a number that fits is kept
-pub kept : (z z′ : ℤ) → SFits w16 z → z ≡ z′ → toZ w16 (ofZ w16 z) ≡ z′
-kept z z′ h e = toZ-ofZ {w = w16} {z = z} h ∙ e
+-- a number that fits is kept, in any width
+pub kept : {w : Width} (z z′ : ℤ) → SFits w z → z ≡ z′ → toZ w (ofZ w z) ≡ z′
+kept {w} z z′ h e = toZ-ofZ {w = w} {z = z} h ∙ e
 
 minus-is : (x : ℕ) → x < 2 ^ 15 → pos 0 -ℤ toZ w16 x ≡ negℤ (pos x)
 minus-is x h = rw (toZ-pos w16 {n = x} h) (+ℤ-idl (negℤ (pos x)))

@@ -1,5 +1,6 @@
-// The reference's vectors of lanes: slices, samples, and draws in one call. Standard input has a case a line, and for each an answer is
-// printed; both are made by the reference (reference/README.md).
+// The reference's vectors of lanes: slices, samples, draws in one call, and lists combined. Standard input has a case a line, and for
+// each an answer is printed; both are made by the reference (reference/README.md).
+mod combinations;
 mod draws;
 mod samples;
 mod words;
@@ -21,6 +22,7 @@ fn run_case(line: &[u8], program: &mut [u8]) {
         0xb => words::signed_samples_case(line),
         0xc => draws::draw_case(line),
         0xd => draws::draw_signed_case(line),
+        0xf => combinations::combine_case(line),
         0x11 => draws::draws_case(line, program),
         _ => {}
     }

@@ -1,9 +1,9 @@
 -- The strings of n bits, each exactly once, and how many of them pass a test. Assumes nothing.
 use Prim.Native.Nat.{ℕ, zero, suc, _+_, _*_, _^_, _≤_, _<_}
-use mathlib.Core.Path.{_≡_, refl, ap, ap₂, _∙_}
-use mathlib.Core.Bool.{Bool, true, false}
+use mathlib.Core.Path.{_≡_, refl, sym, ap, ap₂, _∙_, fun-ext}
+use mathlib.Core.Bool.{Bool, true, false, not}
 use mathlib.Core.List.{List, [], _∷_, _++_, map}
-use native.Mathlib.Nat.{pow-succ'}
+use native.Mathlib.Nat.{mul-one, pow-succ'}
 use native.Mathlib.Omega.{arith}
 use lib.ListN.{length, getD, length-append, length-map}
 use Rattle.laws.specs.Tests.{same}
@@ -34,12 +34,12 @@ count test xs = over xs (λ x. one-if (test x))
 
 -- ---- sums over lists
 module _ {A : Type 0} where
-  over-append : (g : A → ℕ) (xs ys : List A) → over (xs ++ ys) g ≡ over xs g + over ys g
+  pub over-append : (g : A → ℕ) (xs ys : List A) → over (xs ++ ys) g ≡ over xs g + over ys g
   unfolding over
   over-append g [] ys = omega arith
   over-append g (x ∷ xs) ys = omega (arith, over-append g xs ys)
 
-  over-map : {B : Type 0} (f : A → B) (g : B → ℕ) (xs : List A) → over (map f xs) g ≡ over xs (λ x. g (f x))
+  pub over-map : {B : Type 0} (f : A → B) (g : B → ℕ) (xs : List A) → over (map f xs) g ≡ over xs (λ x. g (f x))
   unfolding over
   over-map f g [] = refl
   over-map f g (x ∷ xs) = ap (λ (n : ℕ). g (f x) + n) (over-map f g xs)
@@ -53,6 +53,31 @@ module _ {A : Type 0} where
   unfolding over
   over-eq f g [] e = refl
   over-eq f g (x ∷ xs) e = ap₂ _+_ (e .0) (over-eq f g xs (e .1))
+
+  -- terms that are equal throughout
+  pub over-all : (f g : A → ℕ) (xs : List A) → ((x : A) → f x ≡ g x) → over xs f ≡ over xs g
+  over-all f g xs e = ap (over xs) (fun-ext e)
+
+  pub over-plus : (f g : A → ℕ) (xs : List A) → over xs (λ x. f x + g x) ≡ over xs f + over xs g
+  unfolding over
+  over-plus f g [] = refl
+  over-plus f g (x ∷ xs) = omega (arith, over-plus f g xs)
+
+  pub over-times : (k : ℕ) (g : A → ℕ) (xs : List A) → over xs (λ x. k * g x) ≡ k * over xs g
+  unfolding over
+  over-times k g [] = omega arith
+  over-times k g (x ∷ xs) = omega (arith, over-times k g xs)
+
+  -- those that pass a test, and those that do not
+  pub count-both : (t : A → Bool) (xs : List A) → count t xs + count (λ x. not (t x)) xs ≡ length xs
+  unfolding count
+  count-both t xs =
+      sym (over-plus (λ x. one-if (t x)) (λ x. one-if (not (t x))) xs) ∙
+      (over-all (λ x. one-if (t x) + one-if (not (t x))) (λ x. 1) xs (λ x. either (t x)) ∙ (over-same 1 xs ∙ mul-one (length xs)))
+    where
+      either : (b : Bool) → one-if b + one-if (not b) ≡ 1
+      either true = refl
+      either false = refl
 
 -- a sum over the strings splits by the first bit
 pub over-strings : (n : ℕ) (g : List ℕ → ℕ) →

@@ -11,6 +11,7 @@ use crate::program::check;
 use crate::refusal::Answer;
 use crate::walk::{spent, walk};
 use crate::weights::build;
+use crate::wide::combine;
 
 /// What stands right of the sign `=` for what stands left of it.
 pub fn answer(given: &str) -> Result<String, Malformed> {
@@ -85,6 +86,13 @@ fn carry_out(task: Task, fields: &mut Fields) -> Result<Answer<Line>, Malformed>
                 .map(|laid| done().result(&laid))
         }
         Task::Spent => spent(&fields.bytes()?, &fields.bytes()?).map(|total| done().size(total)),
+        Task::Combine => {
+            let (x1, x2) = (fields.signed_samples()?, fields.signed_samples()?);
+            let (x3, x4) = (fields.signed_samples()?, fields.signed_samples()?);
+            let (first, second) = (fields.short_number()?, fields.short_number()?);
+            combine(&x1, &x2, &x3, &x4, first, second, fields.size()?)
+                .map(|laid| done().result(&laid))
+        }
         Task::Rewrite => rewritten(&fields.bytes()?),
         Task::Draws => drawn(&fields.bytes()?, &fields.bytes()?, fields.number()?),
         Task::Stops => {
@@ -229,7 +237,23 @@ mod tests {
         assert_eq!(answer(&format!("e {file} {strings}")).unwrap(), "0 80");
         assert_eq!(answer(&format!("e {file} {}", &strings[2..])).unwrap(), "d");
         assert_eq!(answer("1 - 0").unwrap(), "1");
-        assert!(answer("f 00").is_err());
+        assert!(answer("15 00").is_err());
         assert!(answer("1 0").is_err());
+    }
+
+    /// 64 times (2 + 3 × -1) + 11 × (0 + 3 × 1) = 32, with a miss in the first lane.
+    #[test]
+    fn answers_lines_of_four_lists() {
+        let list = |entry: &str| entry.repeat(64);
+        let given = format!("f {} {}", list("0002"), list("ffff"));
+        let given = format!("{given} {} 7fff{}", list("0000"), &list("0001")[4..]);
+        let results = format!("0 7fffffff{}", "00000020".repeat(63));
+        assert_eq!(answer(&format!("{given} 3 b 40")).unwrap(), results);
+        assert_eq!(answer(&format!("{given} 3 b 3f")).unwrap(), "d");
+        assert_eq!(answer("f - - - - 3 3e9 0").unwrap(), "e");
+        assert_eq!(
+            answer("f - - - - 3 100000001 40").unwrap_err().0,
+            "above 32 bits: 100000001"
+        );
     }
 }

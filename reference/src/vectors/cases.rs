@@ -83,6 +83,14 @@ pub fn spent(file: &[u8], strings: &[u8]) -> Line {
     Line::new(Task::Spent).array(file).array(strings)
 }
 
+pub fn combine(lists: [&[i16]; 4], first: u32, second: u32, results_lent: usize) -> Line {
+    let line = Line::new(Task::Combine);
+    let line = lists.iter().fold(line, |line, list| line.array(list));
+    line.number(u64::from(first))
+        .number(u64::from(second))
+        .size(results_lent)
+}
+
 /// A matrix file is read, and what was read is written.
 pub fn rewrite(file: &[u8]) -> Line {
     Line::new(Task::Rewrite).array(file)

@@ -22,6 +22,7 @@ pub enum Task {
     Draw = 0xc,
     DrawSigned = 0xd,
     Spent = 0xe,
+    Combine = 0xf,
     Rewrite = 0x10,
     Draws = 0x11,
     Stops = 0x12,
@@ -31,7 +32,7 @@ pub enum Task {
 
 impl Task {
     /// All of them.
-    pub const ALL: [Task; 19] = [
+    pub const ALL: [Task; 20] = [
         Task::Read,
         Task::Write,
         Task::Build,
@@ -46,6 +47,7 @@ impl Task {
         Task::Draw,
         Task::DrawSigned,
         Task::Spent,
+        Task::Combine,
         Task::Rewrite,
         Task::Draws,
         Task::Stops,
@@ -72,7 +74,7 @@ impl Task {
             Task::Check | Task::Start | Task::Resume => "vectors_runs",
             Task::Stops | Task::LongCheck | Task::LongStart => "vectors_runs",
             Task::Slice | Task::Samples | Task::SignedSamples => "vectors_lanes",
-            Task::Draw | Task::DrawSigned | Task::Draws => "vectors_lanes",
+            Task::Draw | Task::DrawSigned | Task::Draws | Task::Combine => "vectors_lanes",
         }
     }
 }
@@ -104,6 +106,15 @@ impl Element for i16 {
 }
 
 impl Element for u32 {
+    fn digits(self) -> String {
+        format!("{self:08x}")
+    }
+    fn bytes(self) -> Vec<u8> {
+        self.to_le_bytes().to_vec()
+    }
+}
+
+impl Element for i32 {
     fn digits(self) -> String {
         format!("{self:08x}")
     }
@@ -253,6 +264,11 @@ impl<'a> Fields<'a> {
         self.array(2, |number| number as u8)
     }
 
+    /// The next field as signed samples.
+    pub fn signed_samples(&mut self) -> Result<Vec<i16>, Malformed> {
+        self.array(4, |number| number as i16)
+    }
+
     /// The next field as numbers of 32 bits.
     pub fn short_numbers(&mut self) -> Result<Vec<u32>, Malformed> {
         self.array(8, |number| number as u32)
@@ -325,7 +341,8 @@ mod tests {
             .number(255)
             .array(&words)
             .array::<u8>(&[]);
-        let text = line.array(&[0u8, 255]).array(&[7u32]).to_string();
+        let line = line.array(&[0u8, 255]).array(&[7u32]);
+        let text = line.array(&[-1i16, 32_767, -32_768]).to_string();
         assert!(text.starts_with("9 ff 0000000000000001ffffffffffffffff8000000000000000 - 00ff "));
         let mut fields = Fields::of(&text);
         assert_eq!(fields.number(), Ok(Task::Slice as u64));
@@ -334,12 +351,15 @@ mod tests {
         assert_eq!(fields.bytes(), Ok(vec![]));
         assert_eq!(fields.bytes(), Ok(vec![0, 255]));
         assert_eq!(fields.short_numbers(), Ok(vec![7]));
+        assert_eq!(fields.signed_samples(), Ok(vec![-1, 32_767, -32_768]));
         assert_eq!(fields.end(), Ok(()));
     }
 
     #[test]
     fn long_results_are_hashed() {
         assert_eq!(Line::default().result(&[0i16, -1]).to_string(), "0000ffff");
+        let combined = Line::default().result(&[-2i32, i32::MAX]);
+        assert_eq!(combined.to_string(), "fffffffe7fffffff");
         assert_eq!(Line::default().result(&[0u8; 256]).to_string().len(), 512);
         assert_eq!(Line::default().result(&[0u8; 257]).to_string().len(), 17);
         assert_eq!(Line::default().result(&[0u64; 33]).to_string().len(), 17);

@@ -7,6 +7,7 @@ mod damaged;
 pub mod line;
 mod runs;
 mod sound;
+mod wide;
 mod worked;
 
 use crate::random::Random;
@@ -26,14 +27,17 @@ pub fn each_given(scale: usize, mut visit: impl FnMut(&str)) {
     damaged::fixed(&mut put);
     runs::fixed(&mut put);
     sound::fixed(&mut Random::new(SEED), &mut put);
+    wide::fixed(&mut Random::new(SEED), &mut put);
     if scale > 1 {
         damaged::thorough(&mut put);
         runs::thorough(&mut put);
+        wide::thorough(&mut put);
     }
     for round in 1..=scale {
         let random = &mut Random::new(SEED + round as u64);
         sound::round(random, &mut put);
         runs::round(random, &mut put);
         damaged::round(random, &mut put);
+        wide::round(random, &mut put);
     }
 }

@@ -14,6 +14,7 @@ mod programs;
 mod stack;
 mod table;
 mod trial;
+mod wide;
 mod wrappers;
 
 use inputs::Stock;
@@ -47,7 +48,7 @@ const fn operation(
     }
 }
 
-const OPERATIONS: [Operation; 15] = [
+const OPERATIONS: [Operation; 16] = [
     operation("read", matrices::read, &[1, 2, 3, 4, 5, 6, 13]),
     operation("write", matrices::write, &[3, 5, 6, 13]),
     operation("build", matrices::build, &[3, 11, 13]),
@@ -74,6 +75,7 @@ const OPERATIONS: [Operation; 15] = [
         lanes::draw_signed,
         &[1, 2, 3, 4, 5, 7, 8, 9, 10, 13],
     ),
+    operation("combine", wide::combine, &[5, 13, 14]),
 ];
 
 fn main() {

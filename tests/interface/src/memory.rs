@@ -13,6 +13,7 @@ const GUARD: usize = 64;
 pub trait Element: Copy {}
 impl Element for u8 {}
 impl Element for i16 {}
+impl Element for i32 {}
 impl Element for u32 {}
 impl Element for u64 {}
 impl Element for usize {}
@@ -32,6 +33,17 @@ pub struct Lent<T> {
     pub length: usize,
     empty: Empty,
     elements: PhantomData<T>,
+}
+
+impl<T> Lent<T> {
+    /// What follows after so many elements of the buffer.
+    pub fn after(self, elements: usize) -> Self {
+        Lent {
+            at: self.at + elements * size_of::<T>(),
+            length: self.length - elements,
+            ..self
+        }
+    }
 }
 
 /// A lent buffer, for reports.

@@ -3,10 +3,10 @@
 use crate::corkhollow;
 use crate::trial::fail;
 use reference::refusal::{
-    BIT, BUFFER, INSTRUCTION, KIND, LENGTH, OPERAND, POSITION, SHORT, SIZE, TOTAL, UNSET,
-    UNWRITTEN, WEIGHTLESS,
+    BIT, BUFFER, INSTRUCTION, KIND, LENGTH, MULTIPLIER, OPERAND, POSITION, SHORT, SIZE, TOTAL,
+    UNSET, UNWRITTEN, WEIGHTLESS,
 };
-use reference::{lanes, lent, matrix, program, record};
+use reference::{lanes, lent, matrix, program, record, wide};
 
 extern "C" {
     static through_numbers: [u64; HEADER_NUMBERS];
@@ -15,11 +15,11 @@ extern "C" {
     fn through_matrix_length(rows: usize, columns: usize) -> usize;
 }
 
-/// The refusals and 0, seven limits, two misses, four lengths.
-const HEADER_NUMBERS: usize = 14 + 7 + 2 + 4;
+/// The refusals and 0, eight limits, three misses, four lengths.
+const HEADER_NUMBERS: usize = REFUSALS.len() + 8 + 3 + 4;
 
 /// The refusals and 0, by the reference.
-const REFUSALS: [u32; 14] = [
+const REFUSALS: [u32; 15] = [
     lent::DONE,
     SHORT,
     KIND,
@@ -34,6 +34,7 @@ const REFUSALS: [u32; 14] = [
     WEIGHTLESS,
     POSITION,
     BUFFER,
+    MULTIPLIER,
 ];
 
 /// The most bytes of an instruction: length, kind, three operands.
@@ -43,10 +44,11 @@ const PROGRAM_BYTES: usize =
     program::PROGRAM_HEADER + program::MOST_INSTRUCTIONS * INSTRUCTION_BYTES;
 
 /// What follows the refusals in the header: by the reference and by the binding.
-fn others() -> [(usize, usize); HEADER_NUMBERS - 14] {
+fn others() -> [(usize, usize); HEADER_NUMBERS - REFUSALS.len()] {
     let matrix_bytes = matrix::file_length(matrix::MOST_ROWS, matrix::MOST_COLUMNS);
     let string_bytes = lanes::LANES * record::packed_length(matrix::MOST_COLUMNS);
     let (miss, signed_miss) = (lanes::MISS as usize, lanes::SIGNED_MISS as usize);
+    let (multiplier, combined_miss) = (wide::MOST_MULTIPLIER, wide::COMBINED_MISS);
     [
         (lanes::LANES, corkhollow::LANES),
         (matrix::MOST_ROWS, corkhollow::ROWS),
@@ -55,8 +57,10 @@ fn others() -> [(usize, usize); HEADER_NUMBERS - 14] {
         (program::MOST_INPUTS, corkhollow::INPUTS),
         (program::MOST_OUTPUTS, corkhollow::OUTPUTS),
         (program::MOST_INSTRUCTIONS, corkhollow::INSTRUCTIONS),
+        (multiplier as usize, corkhollow::MOST_MULTIPLIER as usize),
         (miss, corkhollow::MISS as usize),
         (signed_miss, corkhollow::SIGNED_MISS as usize),
+        (combined_miss as usize, corkhollow::COMBINED_MISS as usize),
         (ENTRIES, corkhollow::MOST_ENTRIES),
         (matrix_bytes, corkhollow::MOST_MATRIX_BYTES),
         (PROGRAM_BYTES, corkhollow::MOST_PROGRAM_BYTES),

@@ -53,4 +53,7 @@ tables! {
         (*const u8, usize, *const u8, usize, *mut u8, usize);
     draw_signed: through_draw_signed, corkhollow_draw_signed
         (*const u8, usize, *const u8, usize, u64, *mut i16, usize);
+    combine: through_combine, corkhollow_combine
+        (*const i16, usize, *const i16, usize, *const i16, usize, *const i16, usize,
+         u32, u32, *mut i32, usize);
 }

@@ -2,7 +2,7 @@
 //! that they hand everything on in its place.
 
 use crate::corkhollow::{self as binding, Header, Refusal, Run, Walk};
-use crate::trial::fail;
+use crate::trial::{fail, ANSWERS};
 use reference::compiler::translate;
 use reference::lent::{self, DONE};
 use reference::matrix::Matrix;
@@ -58,6 +58,9 @@ pub fn compare() {
     both("draw", |sound| draw(&or_less(sound, &program)));
     both("draw_signed", |sound| {
         draw_signed(&or_less(sound, &program))
+    });
+    both("combine", |sound| {
+        combine(if sound { 1_000 } else { 1_001 })
     });
     overlaps();
     words();
@@ -281,7 +284,21 @@ fn draw_signed_on(program: &[u8], strings: &[u8]) -> bool {
     same("draw_signed", (answer, left), (returned, (), wanted))
 }
 
-/// Buffers that are only read may overlap: here a file is also the string, the strings or the input words that go with it.
+/// No two lists are alike, and none has two entries alike.
+fn combine(first: u32) -> bool {
+    let lists = [-127, -63, 1, 63].map(|least| (least..least + 64).collect::<Vec<i16>>());
+    combine_on(lists.each_ref().map(Vec::as_slice), first)
+}
+
+fn combine_on([x1, x2, x3, x4]: [&[i16]; 4], first: u32) -> bool {
+    let (mut left, mut wanted) = ([7; 66], [7; 66]);
+    let answer = binding::combine(x1, x2, x3, x4, first, 11, &mut left);
+    let returned = lent::combine(x1, x2, x3, x4, first, 11, &mut wanted);
+    same("combine", (answer, left), (returned, (), wanted))
+}
+
+/// Buffers that are only read may overlap: here a file is also the string, the strings or the input words that go with it, and a list of
+/// signed samples is all four, or parts of it are.
 fn overlaps() {
     let table = Matrix::from_texts(&["10011010", "00110101", "00100001"]);
     let file = table.encode();
@@ -300,6 +317,9 @@ fn overlaps() {
         done(start_on(program, &words));
         done(resume_on(program, &words, 9));
     }
+    let list: Vec<i16> = (-40..40).collect();
+    done(combine_on([&list; 4], 3));
+    done(combine_on([&list[1..], &list, &list[16..], &list[..64]], 3));
 }
 
 /// The reference took the buffers.
@@ -311,10 +331,11 @@ fn done(taken: bool) {
 
 /// Each refusal has words of its own.
 fn words() {
-    let mut texts: Vec<String> = (0..=13).map(|number| text(&Refusal(number))).collect();
+    let numbers = 0..ANSWERS as u32;
+    let mut texts: Vec<String> = numbers.map(|number| text(&Refusal(number))).collect();
     texts.sort();
     texts.dedup();
-    if texts.len() != 14 {
+    if texts.len() != ANSWERS {
         fail("two refusals of the binding have the same words");
     }
 }

@@ -1,0 +1,2 @@
+-- The patterns of signed numbers.
+pub mod Patterns

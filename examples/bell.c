@@ -1,0 +1,34 @@
+#include "bell.h"
+
+#include "common.h"
+#include "gaussian.h"
+
+/* The proportions that the table itself gives, which is what the engine promises: an entry in column 0 is worth 1/2, in column 1 1/4, .. */
+static void share_out(const uint8_t *entries, struct bell *bell) {
+    for (size_t v = 0; v < bell->rows; v++) {
+        double proportion = 0;
+        for (int c = BELL_COLUMNS - 1; c >= 0; c--) proportion = (proportion + entries[v * BELL_COLUMNS + (size_t)c]) / 2;
+        bell->share[BELL_MOST + v] = bell->share[BELL_MOST - v] = v == 0 ? proportion : proportion / 2;
+    }
+}
+
+void bell_make(const char *sigma, struct bell *bell) {
+    static uint8_t entries[CORKHOLLOW_MOST_ENTRIES]; /* the table's, a byte of 0 or 1 each, row after row */
+    uint8_t matrix[CORKHOLLOW_MOST_MATRIX_BYTES];
+    size_t length;
+    *bell = (struct bell){.rows = gaussian_table(sigma, BELL_COLUMNS, entries)};
+    bell->misses = gaussian_misses(entries, bell->rows, BELL_COLUMNS);
+    share_out(entries, bell);
+    must("corkhollow_write", corkhollow_write(bell->rows, BELL_COLUMNS, entries, sizeof entries, matrix, sizeof matrix, &length));
+    must("corkhollow_compile",
+         corkhollow_compile(matrix, length, bell->program, sizeof bell->program, &bell->program_length));
+}
+
+void bell_draw(const struct bell *bell, FILE *source, int16_t *samples) {
+    uint8_t strings[CORKHOLLOW_LANES * CORKHOLLOW_WIDTH(BELL_COLUMNS)];
+    uint64_t sign;
+    fill(source, strings, sizeof strings);
+    fill(source, &sign, sizeof sign);
+    must("corkhollow_draw_signed",
+         corkhollow_draw_signed(bell->program, bell->program_length, strings, sizeof strings, sign, samples, CORKHOLLOW_LANES));
+}

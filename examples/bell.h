@@ -1,0 +1,30 @@
+/* A bell curve to draw signed samples from: the exact table of a discrete Gaussian (gaussian.h), compiled. */
+#ifndef EXAMPLES_BELL_H
+#define EXAMPLES_BELL_H
+
+#include <stdint.h>
+#include <stdio.h>
+
+#include "corkhollow.h"
+
+enum {
+    BELL_COLUMNS = 128, /* a multiple of 8, so that a string has no spare bits to clear */
+    BELL_MOST = CORKHOLLOW_ROWS - 1,
+    BELL_VALUES = 2 * BELL_MOST + 1
+};
+
+struct bell {
+    size_t rows;
+    uint64_t misses;           /* of the 2^128 strings */
+    double share[BELL_VALUES]; /* how often value v comes, at BELL_MOST + v */
+    uint8_t program[CORKHOLLOW_MOST_PROGRAM_BYTES];
+    size_t program_length;
+};
+
+/* Makes the table of sigma, as gaussian_table takes it, and compiles it. */
+void bell_make(const char *sigma, struct bell *bell);
+
+/* Draws 64 signed samples from fresh strings, with a fresh sign word. */
+void bell_draw(const struct bell *bell, FILE *source, int16_t *samples);
+
+#endif
