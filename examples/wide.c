@@ -1,7 +1,7 @@
 /*
  * A wide bell from four narrow ones, as paper 002 makes deviation 215 of 6.15543: draws four batches of signed samples at a time from
- * /dev/urandom, combines them with the multipliers 3 and 11, and prints how often 1,000,000 results came beside how often the table of the
- * four says. The progress goes to standard error, where that is a terminal.
+ * /dev/urandom, combines them with the multipliers 3 and 11, and prints how often 1,000,000 results came beside how often the table says
+ * of four such samples. The progress goes to standard error, where that is a terminal.
  */
 #include <inttypes.h>
 #include <math.h>
@@ -79,8 +79,8 @@ static int draw(void) {
 }
 
 /*
- * Every result is as likely as its opposite, so that the mean is 0. By chance alone the mean of n squares of a bell's is off by the share
- * sqrt(2 / n) of itself, and its root by half that share.
+ * Every result is as likely as its opposite, so that the mean is 0. By chance alone the mean of the squares of n results is off by the
+ * share sqrt(2 / n) of itself, as with any Gaussian, and its root by half that share.
  */
 static void print_deviation(int hits) {
     double came = 0, due = 0;

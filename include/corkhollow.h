@@ -31,8 +31,8 @@
  *   function: a call works on what it is lent and on its own stack. What one call changes is not to be lent to another meanwhile.
  * - Starting, resuming, slicing, reading samples, drawing and combining carry out the same machine instructions at the same addresses
  *   whatever the random bits are: strings, words, registers, outputs, sign, signed samples with their misses. But a spare bit that is set
- *   ends slicing and drawing at once, with its refusal; combining chooses whether the entries of a list are refused, at most once a list,
- *   after it has looked at all 64; and the walk, and with it corkhollow_spent, chooses by every bit that it reads.
+ *   ends slicing and drawing at once, with its refusal; combining chooses once, after it has looked at all entries of all lists, whether to
+ *   refuse them; and the walk, and with it corkhollow_spent, chooses by every bit that it reads.
  */
 #ifndef CORKHOLLOW_H
 #define CORKHOLLOW_H

@@ -237,7 +237,7 @@ fn a_miss_of_any_part_is_the_result() {
         assert_eq!(combined(entries, 3, 11), Ok(vec![2_147_483_647; 64]));
     }
     assert_eq!(combined([32_767; 4], 1, 1), Ok(vec![2_147_483_647; 64]));
-    // Lane 1 has a miss, and no other lane is any the worse.
+    // Lane 1 has a miss, and no other lane.
     let mut x3 = [7; 64];
     x3[1] = 32_767;
     let results = combine(&[5; 64], &[-2; 64], &x3, &[1; 64], 3, 11, 64).unwrap();

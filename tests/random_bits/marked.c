@@ -1,8 +1,8 @@
 /*
  * Under valgrind's memcheck: marks strings, words, outputs, sign and signed samples as undefined and runs each operation. memcheck counts
  * every jump and every address that depends on an undefined bit: there must be none, but in the operations that choose by the random bits,
- * in which there must be some, and in combining, in which there must be one to four: whether it refuses a list. What an operation leaves
- * must be undefined in turn, so that it did work on the marked bits.
+ * in which there must be some, and in combining, in which there must be one: whether it refuses the lists. What an operation leaves must
+ * be undefined in turn, so that it did work on the marked bits.
  * usage: marked COLUMNS
  */
 #include "operations.h"

@@ -64,7 +64,7 @@ static void combine(const struct batch *b) {
                                   CORKHOLLOW_LANES, 3, 11, results, CORKHOLLOW_LANES);
 }
 
-/* Combining chooses whether the entries of a list are refused: at most once a list, and once at least, or they would not be tried. */
+/* Combining chooses once, when it has looked at all entries: whether they are refused. */
 struct operation operations[OPERATIONS] = {
     {"start", start, 0, 0, outputs, 0},
     {"stop and resume", stop_and_resume, 0, 0, outputs, 0},
@@ -73,7 +73,7 @@ struct operation operations[OPERATIONS] = {
     {"signed_samples", read_signed, 0, 0, signed_samples, sizeof signed_samples},
     {"draw", draw, 0, 0, samples, sizeof samples},
     {"draw_signed", draw_signed, 0, 0, signed_samples, sizeof signed_samples},
-    {"combine", combine, 1, LISTS, results, sizeof results},
+    {"combine", combine, 1, 1, results, sizeof results},
     {"slice, spare bits", slice_spare, 1, MANY, NULL, 0},
     {"walk", walk, 1, MANY, NULL, 0},
     {"spent", spent, 1, MANY, NULL, 0},

@@ -1,45 +1,41 @@
 -- 02, order 2: the result of four signed samples, and which entries are signed samples. Assumes nothing.
-use Prim.Native.Nat.{ℕ, _+_, _*_, _≤_, _<_}
-use mathlib.Core.Path.{_≡_, refl, sym, ap, ap₂, _∙_, subst}
-use mathlib.Core.Bool.{Bool, true, false, cond, not, _&&_, _||_}
+use Prim.Native.Nat.{ℕ, _*_, _≤_, _<_}
+use mathlib.Core.Path.{_≡_, refl, sym, ap}
+use mathlib.Core.Bool.{Bool, true, false, cond, not, _&&_, _||_, or-true}
 use mathlib.Core.List.{List}
 use mathlib.Core.Logic.{_↔_, _⊎_, inl, inr, ⊎-elim}
 use native.Mathlib.Omega.{arith}
 use native.Mathlib.Nat.{mul-le-mul}
 use borrow.Author.Tests.{leb-true, le-leb, not-false}
 use lib.Dec.{leb}
-use mir.Facts.{toZ-pos, toZ-ofZ, sfits-widen}
-use mir.Syntax.{w16, w32}
-use mir.Val.{SFits, toZ, ofZ}
 use lib.IntN.{ℤ, pos, negsuc, natAbs, _+ℤ_, _*ℤ_}
 use lib.ListN.{length, getD}
 use lib.Signed.{leZ}
-use Rattle.laws.specs.Tests.{never, both, neither}
+use Rattle.laws.specs.Tests.{never, both}
 use Rattle.laws.specs.Sums.{any, any-false}
 use Rattle.lanes.specs.Slicing.{lanes}
-use Rattle.combining.specs.Integers.{sameZ, sameZ-so, sameZ-other, size-sum, size-times, size-fits}
+use Rattle.combining.specs.Integers.{sameZ, sameZ-so, sameZ-other, size-sum, size-times}
 
 -- a multiplier is 1 to 1,000
 abbrev pub most-multiplier : ℕ
 most-multiplier = 1000
 
--- x + k × y
+abbrev pub combination : ℕ → ℕ → ℤ → ℤ → ℤ → ℤ → ℤ
+combination first second x1 x2 x3 x4 = (x1 +ℤ pos first *ℤ x2) +ℤ pos second *ℤ (x3 +ℤ pos first *ℤ x4)
+
+-- one step of it, as code has it
 abbrev pub plusTimes : ℕ → ℤ → ℤ → ℤ
 plusTimes k x y = x +ℤ pos k *ℤ y
 
--- (x1 + first × x2) + second × (x3 + first × x4)
-abbrev pub combination : ℕ → ℕ → ℤ → ℤ → ℤ → ℤ → ℤ
-combination first second x1 x2 x3 x4 = plusTimes second (plusTimes first x1 x2) (plusTimes first x3 x4)
-
--- what stands for a miss, among entries and among results
-abbrev pub isMiss : ℤ → Bool
-isMiss z = sameZ z (pos 32767)
+-- whether an entry is the miss, and what stands for a miss among results
+abbrev pub isSignedMiss : ℤ → Bool
+isSignedMiss z = sameZ z (pos 32767)
 
 abbrev pub combined-miss : ℤ
 combined-miss = pos 2147483647
 
 abbrev pub anyMiss : ℤ → ℤ → ℤ → ℤ → Bool
-anyMiss x1 x2 x3 x4 = isMiss x1 || isMiss x2 || isMiss x3 || isMiss x4
+anyMiss x1 x2 x3 x4 = isSignedMiss x1 || isSignedMiss x2 || isSignedMiss x3 || isSignedMiss x4
 
 -- the result of a lane with these entries: with a miss in any of the four it is 2,147,483,647
 unfoldable pub resultOf : ℕ → ℕ → ℤ → ℤ → ℤ → ℤ → ℤ
@@ -47,7 +43,7 @@ resultOf first second x1 x2 x3 x4 = cond (anyMiss x1 x2 x3 x4) combined-miss (co
 
 -- an entry is a miss, or from -127 to 127
 unfoldable pub isSample : ℤ → Bool
-isSample z = isMiss z || (leZ (negsuc 126) z && leZ z (pos 127))
+isSample z = isSignedMiss z || (leZ (negsuc 126) z && leZ z (pos 127))
 
 -- entry j of a list
 abbrev pub entry : List ℤ → ℕ → ℤ
@@ -91,21 +87,20 @@ size-within (negsuc m) h = rw (le-leb m 126 (omega arith))
 -- a sample is the miss, or of size 127 or less
 pub sample-is : (z : ℤ) → (isSample z ≡ true) ↔ ((z ≡ pos 32767) ⊎ (natAbs z ≤ 127))
 unfolding isSample
-sample-is z = (go (isMiss z) refl, ⊎-elim (λ (e : z ≡ pos 32767). rw e) (λ (h : natAbs z ≤ 127). rw (size-within z h) (last (isMiss z))))
+sample-is z = (
+  go (isSignedMiss z) refl,
+  ⊎-elim (λ (e : z ≡ pos 32767). rw e) (λ (h : natAbs z ≤ 127). rw (size-within z h) (or-true (isSignedMiss z))),
+)
   where
-    go : (t : Bool) → isMiss z ≡ t → (t || (leZ (negsuc 126) z && leZ z (pos 127))) ≡ true → (z ≡ pos 32767) ⊎ (natAbs z ≤ 127)
+    go : (t : Bool) → isSignedMiss z ≡ t → (t || (leZ (negsuc 126) z && leZ z (pos 127))) ≡ true → (z ≡ pos 32767) ⊎ (natAbs z ≤ 127)
     go true q e = inl (sameZ-so z (pos 32767) q)
     go false q e = inr (within-size z e)
 
-    last : (t : Bool) → (t || true) ≡ true
-    last true = refl
-    last false = refl
-
 -- ---- a result is the sum where all four hit, and the miss exactly where one of them misses
-pub value-hits : (z : ℤ) → natAbs z ≤ 127 → isMiss z ≡ false
+pub value-hits : (z : ℤ) → natAbs z ≤ 127 → isSignedMiss z ≡ false
 value-hits z h = sameZ-other z (pos 32767) (λ e. omega (arith, ap natAbs e))
 
-hit-size : (z : ℤ) → isSample z ≡ true → isMiss z ≡ false → natAbs z ≤ 127
+hit-size : (z : ℤ) → isSample z ≡ true → isSignedMiss z ≡ false → natAbs z ≤ 127
 hit-size z e h = ⊎-elim (λ (q : z ≡ pos 32767). never (sym (rw q at h))) (λ (l : natAbs z ≤ 127). l) (sample-is z .0 e)
 
 module _ (first second : ℕ) (x1 x2 x3 x4 : ℤ) where
@@ -113,19 +108,19 @@ module _ (first second : ℕ) (x1 x2 x3 x4 : ℤ) where
   unfolding resultOf
   some-miss e = rw e
 
-  pub all-hit : isMiss x1 ≡ false → isMiss x2 ≡ false → isMiss x3 ≡ false → isMiss x4 ≡ false →
+  pub all-hit : isSignedMiss x1 ≡ false → isSignedMiss x2 ≡ false → isSignedMiss x3 ≡ false → isSignedMiss x4 ≡ false →
       resultOf first second x1 x2 x3 x4 ≡ combination first second x1 x2 x3 x4
   unfolding resultOf
   all-hit a b c d = rw (a, b, c, d)
 
   pub result-miss : first ≤ most-multiplier → second ≤ most-multiplier → isSample x1 ≡ true → isSample x2 ≡ true → isSample x3 ≡ true →
       isSample x4 ≡ true → sameZ (resultOf first second x1 x2 x3 x4) combined-miss ≡ anyMiss x1 x2 x3 x4
-  result-miss f s a b c d = go (isMiss x1) (isMiss x2) (isMiss x3) (isMiss x4) refl refl refl refl
+  result-miss f s a b c d = go (isSignedMiss x1) (isSignedMiss x2) (isSignedMiss x3) (isSignedMiss x4) refl refl refl refl
     where
       missed : anyMiss x1 x2 x3 x4 ≡ true → sameZ (resultOf first second x1 x2 x3 x4) combined-miss ≡ true
       missed e = rw (some-miss e)
 
-      go : (p q r t : Bool) → isMiss x1 ≡ p → isMiss x2 ≡ q → isMiss x3 ≡ r → isMiss x4 ≡ t →
+      go : (p q r t : Bool) → isSignedMiss x1 ≡ p → isSignedMiss x2 ≡ q → isSignedMiss x3 ≡ r → isSignedMiss x4 ≡ t →
           sameZ (resultOf first second x1 x2 x3 x4) combined-miss ≡ (p || q || r || t)
       go true q r t e1 e2 e3 e4 = missed (rw e1)
       go false true r t e1 e2 e3 e4 = missed (rw (e1, e2))
@@ -138,14 +133,14 @@ module _ (first second : ℕ) (x1 x2 x3 x4 : ℤ) where
 
 -- ---- entries as code has them: the value of one, 0 for a miss, is small
 abbrev pub valueOf : ℤ → ℤ
-valueOf z = cond (isMiss z) (pos 0) z
+valueOf z = cond (isSignedMiss z) (pos 0) z
 
-abbrev pub Small : ℤ → Type 0
-Small z = natAbs (valueOf z) ≤ 127
+abbrev pub SmallValue : ℤ → Type 0
+SmallValue z = natAbs (valueOf z) ≤ 127
 
-pub sample-small : (z : ℤ) → isSample z ≡ true → Small z
+pub sample-small : (z : ℤ) → isSample z ≡ true → SmallValue z
 sample-small z e =
-    ⊎-elim (λ (q : z ≡ pos 32767). rw q (omega arith)) (λ (h : natAbs z ≤ 127). go (isMiss z) h) (sample-is z .0 e)
+    ⊎-elim (λ (q : z ≡ pos 32767). rw q (omega arith)) (λ (h : natAbs z ≤ 127). go (isSignedMiss z) h) (sample-is z .0 e)
   where
     go : (t : Bool) → natAbs z ≤ 127 → natAbs (cond t (pos 0) z) ≤ 127
     go true h = omega arith
@@ -153,10 +148,10 @@ sample-small z e =
 
 -- with the values in place of the entries, and the miss in place of the sum where one of them does not hit
 pub result-is : (first second : ℕ) (x1 x2 x3 x4 : ℤ) →
-    cond (not (isMiss x1) && not (isMiss x2) && not (isMiss x3) && not (isMiss x4))
+    cond (not (isSignedMiss x1) && not (isSignedMiss x2) && not (isSignedMiss x3) && not (isSignedMiss x4))
     (combination first second (valueOf x1) (valueOf x2) (valueOf x3) (valueOf x4)) combined-miss ≡ resultOf first second x1 x2 x3 x4
 unfolding resultOf
-result-is first second x1 x2 x3 x4 = go (isMiss x1) (isMiss x2) (isMiss x3) (isMiss x4)
+result-is first second x1 x2 x3 x4 = go (isSignedMiss x1) (isSignedMiss x2) (isSignedMiss x3) (isSignedMiss x4)
   where
     go : (a b c d : Bool) → cond (not a && not b && not c && not d)
         (combination first second (cond a (pos 0) x1) (cond b (pos 0) x2) (cond c (pos 0) x3) (cond d (pos 0) x4)) combined-miss ≡

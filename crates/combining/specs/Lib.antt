@@ -1,5 +1,6 @@
--- Integers by their size, a lane's result, and what combining comes to.
+-- Integers by their size, a lane's result, what combining comes to, and which lists are never refused.
 pub mod Integers
 pub mod Combination
 pub mod Arithmetic
 pub mod Combining
+pub mod Reading

@@ -1,10 +1,10 @@
 // Wide bells from four narrow ones (02, order 2).
 //
-// It takes any lists, of any length, and any multipliers, and lays 64 results at the front of a buffer or answers one refusal. Its contract
-// cites `combineOf` of specs/Combining.antt. No choice is made by an entry: a miss is kept out of the sums by products with 0 or 1, and
-// whether an entry is refused is decided once all entries of its list were tried.
+// `combine` takes any lists, of any length, and any multipliers, and lays 64 results at the front of a buffer or answers one refusal. Its
+// contract cites `combineOf` of specs/Combining.antt. No choice is made by an entry: a miss is kept out of the sums by products with 0 or
+// 1, and whether any is refused is decided once, when all entries of all lists were tried.
 ghost use mathlib.Core.Path.{_≡_};
-ghost use mathlib.Core.Bool.{cond, not, _||_};
+ghost use mathlib.Core.Bool.{cond, not};
 ghost use Prim.Native.Nat.{_≤_};
 ghost use lib.IntN.{pos, natAbs};
 ghost use lib.ListN.{length};
@@ -12,8 +12,8 @@ ghost use Rattle.laws.specs.Lists.{upto};
 ghost use Rattle.laws.specs.Lay.{lay};
 ghost use Rattle.laws.specs.Outcome.{laid, mapped};
 ghost use Rattle.lanes.specs.Slicing.{lanes};
-ghost use Rattle.combining.specs.Combination.{isMiss, isSample, most-multiplier, plusTimes, resultAt, resultOf};
-ghost use Rattle.combining.specs.Combination.{Samples, Small, unsound, valueOf};
+ghost use Rattle.combining.specs.Combination.{isSignedMiss, isSample, most-multiplier, plusTimes, resultAt, resultOf};
+ghost use Rattle.combining.specs.Combination.{Samples, SmallValue, unsound, valueOf};
 ghost use Rattle.combining.specs.Combining.{combineOf, combined, short};
 use fields::Refusal;
 use fields::outside;
@@ -37,7 +37,7 @@ pub enum Combined {
 
 // Whether an entry is a value.
 fn hits(x: i16) -> bool
-    ensures { λ r. ⌜ r ≡ not (isMiss x) ⌝ }
+    ensures { λ r. ⌜ r ≡ not (isSignedMiss x) ⌝ }
 {
     x != SIGNED_MISS
 }
@@ -66,7 +66,7 @@ fn plus_times(k: u32, x: i32, y: i32) -> i32
 
 // x + first × y of two entries.
 fn pair(first: u32, x: i16, y: i16) -> i32
-    requires { ⌜ (first ≤ most-multiplier) × Small x × Small y ⌝ }
+    requires { ⌜ (first ≤ most-multiplier) × SmallValue x × SmallValue y ⌝ }
     ensures { λ r. ⌜ r ≡ plusTimes first (valueOf x) (valueOf y) ⌝ }
 {
     plus_times(first, value(x), value(y))
@@ -81,7 +81,7 @@ fn or_missed(hit: bool, x: i32) -> i32
 
 // The result of one lane.
 fn result(first: u32, second: u32, x1: i16, x2: i16, x3: i16, x4: i16) -> i32
-    requires { ⌜ (first ≤ most-multiplier) × (second ≤ most-multiplier) × Small x1 × Small x2 × Small x3 × Small x4 ⌝ }
+    requires { ⌜ (first ≤ most-multiplier) × (second ≤ most-multiplier) × SmallValue x1 × SmallValue x2 × SmallValue x3 × SmallValue x4 ⌝ }
     ensures { λ r. ⌜ r ≡ resultOf first second x1 x2 x3 x4 ⌝ }
 {
     let hit = hits(x1) & hits(x2) & hits(x3) & hits(x4);
@@ -132,8 +132,8 @@ fn fill(
         now (results .exit) ≡ lay xs (now (results .entry))
         ) ⌝ }
 {
-    for j in 0..LANES {
-        results[j] = result(first, second, x1[j], x2[j], x3[j], x4[j]);
+    for lane in 0..LANES {
+        results[lane] = result(first, second, x1[lane], x2[lane], x3[lane], x4[lane]);
     }
 }
 

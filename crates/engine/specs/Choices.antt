@@ -1,20 +1,20 @@
 -- All choices of one element from each of four lists, and how often a combination of four comes up among them: the sum of the products of
 -- how often each of the four does. For any lists, and any combination. Assumes nothing.
-use Prim.Native.Nat.{ℕ, zero, suc, _+_, _-_, _*_}
-use mathlib.Core.Path.{_≡_, refl, sym, ap, ap₂, _∙_, fun-ext}
-use mathlib.Core.Bool.{Bool, true, false, cond, not, _&&_}
+use Prim.Native.Nat.{ℕ, _+_, _*_}
+use mathlib.Core.Path.{_≡_, refl, sym, ap, ap₂, _∙_}
+use mathlib.Core.Bool.{Bool, true, false, cond, _&&_}
 use mathlib.Core.List.{List, [], _∷_, _++_, map}
 use mathlib.Core.Logic.{_⊎_, inl, inr, ⊎-elim}
 use native.Mathlib.Nat.{mul-comm, mul-one, mul-zero}
 use native.Mathlib.Omega.{arith}
 use lib.ListN.{length}
 use Rattle.laws.specs.Lists.{Each, each-append, each-map, each-more}
-use Rattle.walk.specs.Strings.{over, one-if, count, over-append, over-map, over-same, over-eq, over-all, over-plus, over-times}
+use Rattle.walk.specs.Strings.{over, one-if, count, over-append, over-map, over-same, over-none, over-all, over-plus, over-times}
 
 -- what f makes of each element, one after another
-unfoldable pub joined : {A B : Type 0} → List A → (A → List B) → List B
-joined [] f = []
-joined (x ∷ xs) f = f x ++ joined xs f
+unfoldable pub concatMap : {A B : Type 0} → List A → (A → List B) → List B
+concatMap [] f = []
+concatMap (x ∷ xs) f = f x ++ concatMap xs f
 
 pub record Four (A : Type 0) : Type 0 where
   pub x1 : A
@@ -27,23 +27,23 @@ four a b c d = record { x1 = a; x2 = b; x3 = c; x4 = d }
 
 -- every choice of one element from each list
 unfoldable pub fours : {A : Type 0} → List A → List A → List A → List A → List (Four A)
-fours xs1 xs2 xs3 xs4 = joined xs1 (λ a. joined xs2 (λ b. joined xs3 (λ c. map (λ d. four a b c d) xs4)))
+fours xs1 xs2 xs3 xs4 = concatMap xs1 (λ a. concatMap xs2 (λ b. concatMap xs3 (λ c. map (λ d. four a b c d) xs4)))
 
 -- ---- sums over choices are sums within sums
-over-joined : {A B : Type 0} (xs : List A) (f : A → List B) (g : B → ℕ) → over (joined xs f) g ≡ over xs (λ x. over (f x) g)
-unfolding joined over
-over-joined [] f g = refl
-over-joined (x ∷ xs) f g = over-append g (f x) (joined xs f) ∙ ap (λ (n : ℕ). over (f x) g + n) (over-joined xs f g)
+over-concat : {A B : Type 0} (xs : List A) (f : A → List B) (g : B → ℕ) → over (concatMap xs f) g ≡ over xs (λ x. over (f x) g)
+unfolding concatMap over
+over-concat [] f g = refl
+over-concat (x ∷ xs) f g = over-append g (f x) (concatMap xs f) ∙ ap (λ (n : ℕ). over (f x) g + n) (over-concat xs f g)
 
-pub over-fours : {A : Type 0} (xs1 xs2 xs3 xs4 : List A) (g : Four A → ℕ) →
+over-fours : {A : Type 0} (xs1 xs2 xs3 xs4 : List A) (g : Four A → ℕ) →
     over (fours xs1 xs2 xs3 xs4) g ≡ over xs1 (λ a. over xs2 (λ b. over xs3 (λ c. over xs4 (λ d. g (four a b c d)))))
 unfolding fours
 over-fours xs1 xs2 xs3 xs4 g =
-    over-joined xs1 (λ a. joined xs2 (λ b. joined xs3 (λ c. map (λ d. four a b c d) xs4))) g ∙
+    over-concat xs1 (λ a. concatMap xs2 (λ b. concatMap xs3 (λ c. map (λ d. four a b c d) xs4))) g ∙
     over-all _ _ xs1
-    (λ a. over-joined xs2 (λ b. joined xs3 (λ c. map (λ d. four a b c d) xs4)) g ∙
+    (λ a. over-concat xs2 (λ b. concatMap xs3 (λ c. map (λ d. four a b c d) xs4)) g ∙
     over-all _ _ xs2
-    (λ b. over-joined xs3 (λ c. map (λ d. four a b c d) xs4) g ∙ over-all _ _ xs3 (λ c. over-map (λ d. four a b c d) g xs4)))
+    (λ b. over-concat xs3 (λ c. map (λ d. four a b c d) xs4) g ∙ over-all _ _ xs3 (λ c. over-map (λ d. four a b c d) g xs4)))
 
 -- what is chosen may be chosen by something else
 pub fours-map : {X A : Type 0} (f1 f2 f3 f4 : X → A) (xs1 xs2 xs3 xs4 : List X) (g : Four A → ℕ) →
@@ -59,20 +59,20 @@ fours-map f1 f2 f3 f4 xs1 xs2 xs3 xs4 g =
     sym (over-fours xs1 xs2 xs3 xs4 (λ q. g (four (f1 (q .x1)) (f2 (q .x2)) (f3 (q .x3)) (f4 (q .x4))))))
 
 -- ---- a fact of every choice
-each-joined : {A B : Type 0} (P : A → Type 0) (Q : B → Type 0) (xs : List A) (f : A → List B) → ((x : A) → P x → Each Q (f x)) →
-    Each P xs → Each Q (joined xs f)
-unfolding joined
-each-joined P Q [] f h e = tt
-each-joined P Q (x ∷ xs) f h e = each-append Q (f x) (joined xs f) (h x (e .0)) (each-joined P Q xs f h (e .1))
+each-concat : {A B : Type 0} (P : A → Type 0) (Q : B → Type 0) (xs : List A) (f : A → List B) → ((x : A) → P x → Each Q (f x)) →
+    Each P xs → Each Q (concatMap xs f)
+unfolding concatMap
+each-concat P Q [] f h e = tt
+each-concat P Q (x ∷ xs) f h e = each-append Q (f x) (concatMap xs f) (h x (e .0)) (each-concat P Q xs f h (e .1))
 
 pub each-fours : {A : Type 0} (P1 P2 P3 P4 : A → Type 0) (Q : Four A → Type 0) (xs1 xs2 xs3 xs4 : List A) →
     ((a b c d : A) → P1 a → P2 b → P3 c → P4 d → Q (four a b c d)) → Each P1 xs1 → Each P2 xs2 → Each P3 xs3 → Each P4 xs4 →
     Each Q (fours xs1 xs2 xs3 xs4)
 unfolding fours
 each-fours P1 P2 P3 P4 Q xs1 xs2 xs3 xs4 h e1 e2 e3 e4 =
-    each-joined P1 Q xs1 _
-    (λ a pa. each-joined P2 Q xs2 _
-    (λ b pb. each-joined P3 Q xs3 _
+    each-concat P1 Q xs1 _
+    (λ a pa. each-concat P2 Q xs2 _
+    (λ b pb. each-concat P3 Q xs3 _
     (λ c pc. each-map P4 Q (λ d. four a b c d) xs4 (λ d pd. h a b c d pa pb pc pd) e4) e3) e2) e1
 
 -- ---- a sum of products, one factor for each of the four
@@ -108,7 +108,7 @@ module _ {A : Type 0} (w1 w2 w3 w4 : A → ℕ) (xs1 xs2 xs3 xs4 : List A) where
         over-times (w1 a) (λ b. w2 b * over xs3 (λ c. w3 c * over xs4 (λ d. w4 d * g a b c d))) xs2)
 
   -- the factors are summed one by one
-  pub over-product : over (fours xs1 xs2 xs3 xs4) (weights w1 w2 w3 w4) ≡ over xs1 w1 * over xs2 w2 * over xs3 w3 * over xs4 w4
+  over-product : over (fours xs1 xs2 xs3 xs4) (weights w1 w2 w3 w4) ≡ over xs1 w1 * over xs2 w2 * over xs3 w3 * over xs4 w4
   over-product =
       over-all _ _ (fours xs1 xs2 xs3 xs4) (λ q. sym (mul-one (weights w1 w2 w3 w4 q))) ∙
       (over-weights (λ a b c d. 1) ∙
@@ -129,9 +129,6 @@ module _ {A : Type 0} (same : A → A → Bool) (same-so : (a b : A) → same a 
   abbrev pub Once : A → Type 0
   Once x = count (same x) values ≡ 1
 
-  nothing : {B : Type 0} (xs : List B) → over xs (λ x. 0) ≡ 0
-  nothing xs = over-same 0 xs ∙ omega arith
-
   only : (g : A → ℕ) (x : A) → Once x ⊎ (g x ≡ 0) → over values (λ v. one-if (same x v) * g v) ≡ g x
   unfolding count
   only g x e =
@@ -146,7 +143,7 @@ module _ {A : Type 0} (same : A → A → Bool) (same-so : (a b : A) → same a 
   -- a sum over a list whose elements are among the values, or count nothing
   by-value : (g : A → ℕ) (xs : List A) → Each (λ x. Once x ⊎ (g x ≡ 0)) xs → over xs g ≡ over values (λ v. often same xs v * g v)
   unfolding often count over
-  by-value g [] e = sym (over-all _ _ values (λ v. none (g v)) ∙ nothing values)
+  by-value g [] e = sym (over-all _ _ values (λ v. none (g v)) ∙ over-none values)
     where
       none : (n : ℕ) → 0 * n ≡ 0
       none n = omega arith
@@ -159,7 +156,7 @@ module _ {A : Type 0} (same : A → A → Bool) (same-so : (a b : A) → same a 
       sum a b c = omega arith
 
   vanish : (o h : A → ℕ) → ((v : A) → h v ≡ 0) → over values (λ v. o v * h v) ≡ 0
-  vanish o h e = over-all _ _ values (λ v. rw (e v) (mul-zero (o v))) ∙ nothing values
+  vanish o h e = over-all _ _ values (λ v. rw (e v) (mul-zero (o v))) ∙ over-none values
 
   -- ---- four lists, and a test of four
   module _ (t : A → A → A → A → Bool) (xs1 xs2 xs3 xs4 : List A) where

@@ -1,6 +1,6 @@
 -- Demand 3: over all 2^n strings the compiled program gives sample v exactly p_v times and misses 2^n - T times; of two matrices with as
 -- many rows and columns, equal counts exactly when equal matrices. Assumes nothing.
-use Prim.Native.Nat.{ℕ, _-_, _%_, _^_, _≤_, _<_}
+use Prim.Native.Nat.{ℕ, _-_, _^_, _≤_, _<_}
 use mathlib.Core.Path.{_≡_, refl, sym, ap, _∙_}
 use mathlib.Core.List.{List}
 use mathlib.Core.Logic.{_↔_, ⊎-elim}
@@ -89,9 +89,9 @@ module _ (file file′ : List ℕ) (M M′ : Matrix) (e : matrixOf file ≡ give
 
 -- ---- there is such a choice for every accepted matrix: lane 0 of words that are the string's bits, nothing but zeros before, and just the
 -- budget needed
-bit-zero : (x : ℕ) → bitAt x 0 ≡ x % 2
+pub low-bit : (x : ℕ) → x ≤ 1 → bitAt x 0 ≡ x
 unfolding bitAt
-bit-zero x = omega arith
+low-bit x h = omega arith
 
 abbrev pub plainly : Matrix → List ℕ → Choice
 plainly M s =
@@ -110,7 +110,7 @@ plainly-fair M s b =
       in-word = omega arith;
       words =
           λ i. ⊎-elim (λ (l : i < M .columns). omega (arith, b .each i l)) (λ (l : M .columns ≤ i). beyond i l) (lt-or-ge i (M .columns));
-      carries = λ i l. lowest (getD s i 0) (b .each i l);
+      carries = λ i l. low-bit (getD s i 0) (b .each i l);
       inputs-there = omega (arith, b .long);
       registers-there = omega (arith, length-replicate {A = ℕ} (program M .registers) 0);
       outputs-there = omega (arith, length-replicate {A = ℕ} (program M .outputs) 0);
@@ -119,6 +119,3 @@ plainly-fair M s b =
   where
     beyond : (i : ℕ) → M .columns ≤ i → getD s i 0 < 2 ^ lanes
     beyond i l = rw (List·getD-eq-default s 0 {n = i} (omega (arith, b .long))) (omega arith)
-
-    lowest : (x : ℕ) → x ≤ 1 → bitAt x 0 ≡ x
-    lowest x h = bit-zero x ∙ omega arith

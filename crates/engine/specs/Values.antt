@@ -8,7 +8,7 @@ use lib.Dec.{eqb}
 use lib.IntN.{ℤ, pos, negsuc, natAbs}
 use Rattle.laws.specs.Sums.{sumTo, sum-eq}
 use Rattle.laws.specs.Lists.{Each, each-append, each-blocks, each-map, blocks, upto}
-use Rattle.walk.specs.Strings.{over, one-if, count, over-append, over-map, over-same}
+use Rattle.walk.specs.Strings.{over, one-if, count, over-append, over-map, over-none}
 use Rattle.walk.specs.Counts.{sum-one}
 use Rattle.combining.specs.Integers.{sameZ}
 
@@ -27,9 +27,6 @@ once n x h =
     (sum-eq n (λ i. one-if (eqb x i)) (λ i. 1 * one-if (eqb x i)) (λ i l. omega arith) ∙
     sum-one n x (λ i. 1) (λ i. one-if (eqb x i)) (ap one-if (eq-eqb x x refl)) (λ i ne. ap one-if (ne-eqb x i (λ e. ne (sym e)))) h)
 
-none : {A : Type 0} (xs : List A) → over xs (λ x. 0) ≡ 0
-none xs = over-same 0 xs ∙ omega arith
-
 -- by the sign of what is counted
 by-sign : (b : ℕ) (g : ℤ → ℕ) →
     over (valuesTo b) g ≡ over (upto b (λ i. i)) (λ i. g (negsuc i)) + over (upto (suc b) (λ i. i)) (λ i. g (pos i))
@@ -41,9 +38,9 @@ by-sign b g =
 pub value-once : (b : ℕ) (z : ℤ) → natAbs z ≤ b → count (sameZ z) (valuesTo b) ≡ 1
 unfolding count
 value-once b (pos x) h =
-    by-sign b (λ z. one-if (sameZ (pos x) z)) ∙ ap₂ _+_ (none (upto b (λ i. i))) (once (suc b) x (omega arith))
+    by-sign b (λ z. one-if (sameZ (pos x) z)) ∙ ap₂ _+_ (over-none (upto b (λ i. i))) (once (suc b) x (omega arith))
 value-once b (negsuc x) h =
-    by-sign b (λ z. one-if (sameZ (negsuc x) z)) ∙ ap₂ _+_ (once b x h) (none (upto (suc b) (λ i. i)))
+    by-sign b (λ z. one-if (sameZ (negsuc x) z)) ∙ ap₂ _+_ (once b x h) (over-none (upto (suc b) (λ i. i)))
 
 each-upto : (n : ℕ) → Each (λ i. i < n) (upto n (λ i. i))
 unfolding upto

@@ -1,101 +1,83 @@
--- 02, order 2: four lists as `draw_signed` gives them are combined, and never refused: result j is that of the four walks on strings j.
--- Assumes nothing.
+-- 02, order 2: lists that `draw_signed` gives, of whatever programs, are combined and never refused; of compiled programs result j is that
+-- of the four walks on strings j. Assumes nothing.
 use Prim.Native.Nat.{ℕ, _≤_, _<_}
-use mathlib.Core.Path.{_≡_, ap, _∙_}
+use mathlib.Core.Path.{_≡_, ap}
 use mathlib.Core.Bool.{false}
 use mathlib.Core.List.{List}
-use native.Mathlib.Omega.{arith}
-use borrow.Author.Tests.{le-ltb}
 use lib.Dec.{ltb}
 use lib.IntN.{ℤ, pos}
-use lib.ListN.{length}
-use Rattle.laws.specs.Sums.{any-all}
+use lib.ListN.{replicate}
 use Rattle.laws.specs.Words.{bitAt}
-use Rattle.laws.specs.Lists.{upto, upto-eq, getD-upto, length-upto}
-use Rattle.laws.specs.Outcome.{Outcome, gives, _>>=_}
-use Rattle.fields.specs.Limits.{outside}
+use Rattle.laws.specs.Lists.{upto, upto-eq, getD-upto}
+use Rattle.laws.specs.Outcome.{Outcome, gives, _>>=_, bound, passed}
 use Rattle.fields.specs.Strings.{stringsOf}
-use Rattle.files.specs.Matrix.{Matrix}
-use Rattle.files.specs.Files.{matrixOf}
-use Rattle.files.specs.RoundTrip.{read-accepted}
-use Rattle.lanes.specs.Slicing.{lanes, stringBits}
+use Rattle.checker.specs.Checks.{checkOf}
+use Rattle.machine.specs.Runs.{startOf}
+use Rattle.lanes.specs.Slicing.{lanes, sliceOf}
 use Rattle.lanes.specs.Samples.{signedCode}
-use Rattle.combining.specs.Combination.{most-multiplier, entry, resultOf, unsound}
-use Rattle.combining.specs.Combining.{combineOf, short}
+use Rattle.combining.specs.Combination.{entry, resultOf, Samples}
+use Rattle.combining.specs.Combining.{unfit, combineOf}
+use Rattle.combining.specs.Reading.{read-samples, samples-combined}
 use Rattle.compiler.specs.Translation.{compiled}
-use Rattle.drawing.specs.Drawing.{drawSignedOf}
+use Rattle.drawing.specs.Drawing.{drawnWith, drawSignedOf}
 use Rattle.engine.specs.Batches.{drawnAt}
 use Rattle.engine.specs.Draws.{draw-signed-walks}
-use Rattle.engine.specs.Parts.{Pick, entry-sample}
+use Rattle.engine.specs.Parts.{Table}
 
--- a batch of one part: an accepted matrix, 64 sound strings and a sign word
+-- ---- lists drawn in one call
+pub draw-samples : (program strings : List ℕ) (sign room : ℕ) (xs : List ℤ) → drawSignedOf program strings sign room ≡ gives xs → Samples xs
+unfolding drawnWith
+draw-samples program strings sign room xs e =
+    let a = bound (checkOf program) _ xs e in
+    let p = a .0 .program in
+    let b = bound (sliceOf (p .inputs) strings (p .inputs)) _ xs (a .2) in
+    let c = passed 13 (ltb room lanes) _ xs (b .2) in
+    let d = bound (startOf program (b .0) (replicate (p .registers) 0) (replicate (p .outputs) 0) (p .count)) _ xs (c .1) in
+    read-samples (d .0 .state .outputs) sign room xs (d .2)
+
+-- ---- batches
+-- an accepted matrix, 64 sound strings, a sign word, and room for the samples
 pub record Batch : Type 0 where
-  pub file : List ℕ
-  pub matrix : Matrix
-  pub accepted : matrixOf file ≡ gives matrix
+  pub table : Table
   pub strings : List ℕ
-  pub sound : stringsOf lanes (matrix .columns) strings ≡ gives tt
+  pub sound : stringsOf lanes (table .matrix .columns) strings ≡ gives tt
   pub sign : ℕ
+  pub room : ℕ
+  pub space : lanes ≤ room
 
 -- the signed sample of the walk on string j
 abbrev pub entryAt : Batch → ℕ → ℤ
-entryAt B j = signedCode (bitAt (B .sign) j) (drawnAt (B .matrix) (B .strings) j)
+entryAt B j = signedCode (bitAt (B .sign) j) (drawnAt (B .table .matrix) (B .strings) j)
 
-drawnList : Batch → List ℤ
-drawnList B = upto lanes (entryAt B)
+-- a draw of its compiled program
+abbrev pub draws : Batch → Outcome (List ℤ)
+draws B = drawSignedOf (compiled (B .table .matrix)) (B .strings) (B .sign) (B .room)
 
-list-entry : (B : Batch) (j : ℕ) → j < lanes → entry (drawnList B) j ≡ entryAt B j
-unfolding drawnList
+draws-are : (B : Batch) → draws B ≡ gives (upto lanes (entryAt B))
+draws-are B =
+    draw-signed-walks (B .table .file) (B .table .matrix) (B .table .accepted) (B .strings) (B .sound) (B .room) (B .space) (B .sign)
+
+list-entry : (B : Batch) (j : ℕ) → j < lanes → entry (upto lanes (entryAt B)) j ≡ entryAt B j
 list-entry B j h = getD-upto lanes (entryAt B) j (pos 0) h
 
-list-long : (B : Batch) → ltb (length (drawnList B)) lanes ≡ false
-unfolding drawnList
-list-long B = le-ltb (length (drawnList B)) lanes (omega (arith, length-upto lanes (entryAt B)))
+list-samples : (B : Batch) → Samples (upto lanes (entryAt B))
+list-samples B = draw-samples (compiled (B .table .matrix)) (B .strings) (B .sign) (B .room) (upto lanes (entryAt B)) (draws-are B)
 
-list-sound : (B : Batch) → unsound (drawnList B) ≡ false
-unfolding unsound
-list-sound B =
-    any-all lanes _
-    (λ j h.
-    let q : Pick = record { string = stringBits (B .matrix .columns) (B .strings) j; sign = bitAt (B .sign) j } in
-    rw (list-entry B j h, entry-sample (B .matrix) (read-accepted (B .file) (B .matrix) (B .accepted)) q))
-
-module _ (first second room : ℕ) (B1 B2 B3 B4 : Batch) (f : outside most-multiplier first ≡ false)
-    (s : outside most-multiplier second ≡ false) (space : lanes ≤ room) where
-  draws : Batch → Outcome (List ℤ)
-  draws B = drawSignedOf (compiled (B .matrix)) (B .strings) (B .sign) room
-
-  drawn-is : (B : Batch) → draws B ≡ gives (drawnList B)
-  unfolding draws drawnList
-  drawn-is B = draw-signed-walks (B .file) (B .matrix) (B .accepted) (B .strings) (B .sound) room space (B .sign)
-
-  combine-lists : combineOf first second (drawnList B1) (drawnList B2) (drawnList B3) (drawnList B4) room ≡
-      gives (upto lanes (λ j. resultOf first second (entryAt B1 j) (entryAt B2 j) (entryAt B3 j) (entryAt B4 j)))
-  unfolding combineOf short
-  combine-lists =
-      rw (
-        f,
-        s,
-        list-long B1,
-        list-long B2,
-        list-long B3,
-        list-long B4,
-        le-ltb room lanes space,
-        list-sound B1,
-        list-sound B2,
-        list-sound B3,
-        list-sound B4,
-      )
-      (ap gives
-      (upto-eq lanes _ _ (λ j h. rw (list-entry B1 j h, list-entry B2 j h, list-entry B3 j h, list-entry B4 j h))))
-
-  -- result j is that of the four walks on strings j
-  pub combine-draws : (do
-    x1 ← drawSignedOf (compiled (B1 .matrix)) (B1 .strings) (B1 .sign) room
-    x2 ← drawSignedOf (compiled (B2 .matrix)) (B2 .strings) (B2 .sign) room
-    x3 ← drawSignedOf (compiled (B3 .matrix)) (B3 .strings) (B3 .sign) room
-    x4 ← drawSignedOf (compiled (B4 .matrix)) (B4 .strings) (B4 .sign) room
-    combineOf first second x1 x2 x3 x4 room) ≡
-      gives (upto lanes (λ j. resultOf first second (entryAt B1 j) (entryAt B2 j) (entryAt B3 j) (entryAt B4 j)))
-  unfolding draws
-  combine-draws = rw (drawn-is B1, drawn-is B2, drawn-is B3, drawn-is B4) combine-lists
+-- result j is that of the four walks on strings j
+pub combine-draws : (first second room : ℕ) (B1 B2 B3 B4 : Batch) → unfit first second ≡ false → lanes ≤ room →
+    (do
+      x1 ← draws B1
+      x2 ← draws B2
+      x3 ← draws B3
+      x4 ← draws B4
+      combineOf first second x1 x2 x3 x4 room) ≡
+    gives (upto lanes (λ j. resultOf first second (entryAt B1 j) (entryAt B2 j) (entryAt B3 j) (entryAt B4 j)))
+combine-draws first second room B1 B2 B3 B4 f space =
+    rw (
+      draws-are B1,
+      draws-are B2,
+      draws-are B3,
+      draws-are B4,
+      samples-combined first second room _ _ _ _ (list-samples B1) (list-samples B2) (list-samples B3) (list-samples B4) f space,
+    )
+    (ap gives (upto-eq lanes _ _ (λ j h. rw (list-entry B1 j h, list-entry B2 j h, list-entry B3 j h, list-entry B4 j h))))

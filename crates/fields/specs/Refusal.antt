@@ -1,4 +1,4 @@
--- 01, "The engine's no": the number that each refusal returns, and the answer of what writes. Assumes nothing.
+-- 01, "The engine's no", and 02: the number that each refusal returns, and the answer of what writes. Assumes nothing.
 use Prim.Native.Nat.{ℕ}
 use Rattle.laws.specs.Outcome.{Outcome, refused, gives}
 use Rattle.fields.specs.declared.refusals.Refusal.{Refusal}

@@ -7,8 +7,8 @@ use mathlib.Core.Logic.{⊎-elim}
 use native.Mathlib.Nat.{eq-or-lt-of-le, mul-le-mul-left, mul-one, mul-zero}
 use native.Mathlib.Omega.{arith}
 use borrow.Author.Tests.{lt-ltb, le-ltb}
-use mir.Facts.{toZ-pos, toZ-ofZ}
-use mir.Syntax.{Width, w16}
+use mir.Facts.{toZ-pos}
+use mir.Syntax.{w16}
 use mir.Val.{SFits, toZ, ofZ}
 use lib.Bits.{bitAnd, bitOr, or-lt}
 use lib.Dec.{eqb, ltb, lit<}
@@ -16,7 +16,7 @@ use lib.IntN.{ℤ, pos, negsuc, negℤ, _+ℤ_, _-ℤ_, +ℤ-idl, +ℤ-idr}
 use lib.ListN.{length, getD, set, List·getD-eq-default}
 use lib.Seq.{getD-set-same, getD-set-other}
 use Rattle.laws.specs.Tests.{reached, zero-or-one}
-use Rattle.laws.specs.Words.{bitAt, pack, bitAt-lt, bitAt-zero, bitAt-and, bitAt-or, bitAt-not, bitAt-pack}
+use Rattle.laws.specs.Words.{kept, bitAt, pack, bitAt-lt, bitAt-zero, bitAt-and, bitAt-or, bitAt-not, bitAt-pack}
 use Rattle.laws.specs.Words.{masked-lt, pack-eq, pack-mod, pack-ones, pack-short}
 use Rattle.laws.specs.Lists.{upto}
 use Rattle.laws.specs.Lay.{lay, lay-is, Laid, upto-done}
@@ -237,10 +237,6 @@ lanes-read outputs sign rows now few p e =
     rw e (record { plain = read-plain outputs sign rows few p; signed = read-signed outputs sign rows few p })
 
 -- ---- negation in 16 bits
--- a number that fits is kept, in any width
-pub kept : {w : Width} (z z′ : ℤ) → SFits w z → z ≡ z′ → toZ w (ofZ w z) ≡ z′
-kept {w} z z′ h e = toZ-ofZ {w = w} {z = z} h ∙ e
-
 minus-is : (x : ℕ) → x < 2 ^ 15 → pos 0 -ℤ toZ w16 x ≡ negℤ (pos x)
 minus-is x h = rw (toZ-pos w16 {n = x} h) (+ℤ-idl (negℤ (pos x)))
 

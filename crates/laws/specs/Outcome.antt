@@ -1,4 +1,5 @@
--- What an operation comes to: one refusal of 01's table by its number, or a result. Checks are tried in the order in which they stand.
+-- What an operation comes to: one refusal by its number in 01's table or in 02, or a result. Checks are tried in the order in which they
+-- stand.
 -- Assumes nothing.
 use Prim.Native.Nat.{ℕ}
 use mathlib.Core.Path.{_≡_, refl, sym, ap}

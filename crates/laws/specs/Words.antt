@@ -4,6 +4,10 @@ use mathlib.Core.Path.{_≡_, refl, sym, ap, _∙_}
 use mathlib.Core.Logic.{⊎-elim}
 use native.Mathlib.Nat.{add-zero, zero-add, zero-div, pow-succ', eq-or-lt-of-le, le-of-suc-le-suc, le-dest, mod-eq-of-lt}
 use native.Mathlib.Omega.{arith}
+use mir.Facts.{toZ-ofZ}
+use mir.Syntax.{Width}
+use mir.Val.{SFits, toZ, ofZ}
+use lib.IntN.{ℤ}
 use lib.Bits.{bitAnd, bitOr, bitXor, differ, and-le-r, and-mask, and-shr, and-step, or-shr, or-step, xor-shr, xor-step}
 use lib.Pow.{pow-pos, shl-shr, shr-shr, high, low, field, mod-mod-pow, mod-pow-add}
 use Rattle.laws.specs.Digits.{digit-lt}
@@ -16,6 +20,10 @@ bitAt x j = x / 2 ^ j % 2
 unfoldable pub pack : ℕ → (ℕ → ℕ) → ℕ
 pack zero f = 0
 pack (suc k) f = f k * 2 ^ k + pack k f
+
+-- ---- signed numbers: one that fits its width is kept
+pub kept : {w : Width} (z z′ : ℤ) → SFits w z → z ≡ z′ → toZ w (ofZ w z) ≡ z′
+kept {w} z z′ h e = toZ-ofZ {w = w} {z = z} h ∙ e
 
 -- ---- one bit
 pub bitAt-lt : (x j : ℕ) → bitAt x j < 2

@@ -49,6 +49,9 @@ module _ {A : Type 0} where
   over-same k [] = omega arith
   over-same k (x ∷ xs) = omega (arith, over-same k xs)
 
+  pub over-none : (xs : List A) → over xs (λ x. 0) ≡ 0
+  over-none xs = over-same 0 xs ∙ omega arith
+
   pub over-eq : (f g : A → ℕ) (xs : List A) → Each (λ x. f x ≡ g x) xs → over xs f ≡ over xs g
   unfolding over
   over-eq f g [] e = refl

@@ -6,8 +6,8 @@ use Prim.Native.Nat.{_-_, _≤_}
 use Rattle.laws.specs.Lists.{upto}
 use Rattle.laws.specs.Lay.{Laid, lay-is, upto-none, laid-store, upto-done}
 use Rattle.lanes.specs.Slicing.{lanes}
-use Rattle.combining.specs.Combination.{Samples, resultAt}
-use Rattle.combining.specs.Arithmetic.{entry-small, lane-read}
+use Rattle.combining.specs.Combination.{resultAt}
+use Rattle.combining.specs.Arithmetic.{entry-small, lane-result}
 use Rattle.combining.proofs.fill.Statement.{statement}
 use Rattle.combining.proofs.fill.Tie as tie
 
@@ -38,7 +38,7 @@ loop-again : tie.Need-loop-again Inv-loop μ-loop
 loop-again c =
     let within = c .before .before .before .before .before in
     let s = within .before .before .pre .1 in
-    let is = lane-read _ _ _ _ _ _ _ _ (s .0) (s .1) (s .2) (s .3) (within .loop-test .taken) (record { sfits = c .result .ok })
+    let is = lane-result _ _ _ _ _ _ _ _ (s .0) (s .1) (s .2) (s .3) (within .loop-test .taken) (record { sfits = c .result .ok })
     (c .result .ensures) in
     (search needs, laid-store _ _ _ _ _ _ _ (omega arith) (search needs) is (within .before .loop .inv .1))
 

@@ -1,6 +1,5 @@
 -- `combining::or_missed` meets its contract: of the two parts one is 0. Assumes nothing.
 use borrow.Author.Needs.{needs}
-use mathlib.Core.Path.{_∙_}
 use Rattle.combining.specs.Arithmetic.{missed-read, missed-fits, missed-is}
 use Rattle.combining.proofs.or_missed.Statement.{statement}
 use Rattle.combining.proofs.or_missed.Tie as tie

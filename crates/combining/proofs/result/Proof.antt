@@ -1,18 +1,18 @@
 -- `combining::result` meets its contract: the sum of the values, or the miss where one of them does not hit. Assumes nothing.
 use borrow.Author.Needs.{needs}
-use Rattle.combining.specs.Arithmetic.{given-small, pair-small, result-read}
+use Rattle.combining.specs.Arithmetic.{passed-small, pair-small, result-read}
 use Rattle.combining.proofs.result.Statement.{statement}
 use Rattle.combining.proofs.result.Tie as tie
 
 pair-requires : tie.Need-pair-requires
 pair-requires c κs =
     let start = c .before .before .before .before in
-    (search needs, given-small _ (start .fits .x1) (start .pre .2), given-small _ (start .fits .x2) (start .pre .3))
+    (search needs, passed-small _ (start .fits .x1) (start .pre .2), passed-small _ (start .fits .x2) (start .pre .3))
 
 pair-requires-2 : tie.Need-pair-requires-2
 pair-requires-2 c κs =
     let start = c .before .before .before .before .before in
-    (search needs, given-small _ (start .fits .x3) (start .pre .4), given-small _ (start .fits .x4) (start .pre .5))
+    (search needs, passed-small _ (start .fits .x3) (start .pre .4), passed-small _ (start .fits .x4) (start .pre .5))
 
 plus-times-requires : tie.Need-plus-times-requires
 plus-times-requires c κs =

@@ -1,6 +1,5 @@
 -- `combining::unsound` meets its contract: before entry j, whether any before it is unsound. Assumes nothing.
 use borrow.Author.Needs.{needs}
-use native.Mathlib.Omega.{arith}
 use mathlib.Core.Path.{_≡_, sym}
 use mathlib.Core.Bool.{not}
 use Prim.Native.Nat.{_-_, _≤_}

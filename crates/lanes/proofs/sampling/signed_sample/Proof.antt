@@ -1,6 +1,6 @@
 -- `lanes::signed_sample` meets its contract. Assumes nothing.
 use borrow.Author.Needs.{needs}
-use Rattle.lanes.specs.Samples.{kept}
+use Rattle.laws.specs.Words.{kept}
 use Rattle.lanes.proofs.sampling.signed_sample.Statement.{statement}
 use Rattle.lanes.proofs.sampling.signed_sample.Tie as tie
 

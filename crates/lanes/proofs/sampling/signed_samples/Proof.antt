@@ -3,12 +3,12 @@ use borrow.Author.Needs.{needs}
 use native.Mathlib.Omega.{arith}
 use mathlib.Core.Path.{_∙_}
 use Prim.Native.Nat.{_-_, _≤_}
-use Rattle.laws.specs.Words.{bitAt}
+use Rattle.laws.specs.Words.{kept, bitAt}
 use Rattle.laws.specs.Lists.{upto}
 use Rattle.laws.specs.Lay.{Laid, upto-none, laid-store}
 use Rattle.lanes.specs.Transposing.{blank-table}
 use Rattle.lanes.specs.Slicing.{lanes}
-use Rattle.lanes.specs.Samples.{LaneRows, kept, signedCode, sampleOf, reads-none, reads-many, reads-short, reads-all}
+use Rattle.lanes.specs.Samples.{LaneRows, signedCode, sampleOf, reads-none, reads-many, reads-short, reads-all}
 use Rattle.lanes.proofs.sampling.signed_samples.Statement.{statement}
 use Rattle.lanes.proofs.sampling.signed_samples.Tie as tie
 
