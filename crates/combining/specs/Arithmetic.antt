@@ -119,7 +119,7 @@ pub plus-times-read : (k : ℕ) (v w x y r : ℤ) → SFits w32 v → SFits w32 
     r ≡ plusTimes k (toZ w32 (ofZ w32 v)) (toZ w32 (ofZ w32 w)) → toZ w32 (ofZ w32 r) ≡ plusTimes k x y
 plus-times-read k v w x y r fv fw fr ev ew e = kept _ _ fr (e ∙ ap₂ (plusTimes k) (kept v x fv ev) (kept w y fw ew))
 
--- an entry as a callee is passed it
+-- an entry as it is passed to a callee
 abbrev passed : ℤ → ℤ
 passed x = toZ w16 (ofZ w16 x)
 
