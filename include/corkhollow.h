@@ -17,6 +17,8 @@
  *   nothing has changed.
  * - A buffer longer than needed is never refused, and its rest is neither read nor written. A file is exactly its length: bytes left over
  *   are a refusal.
+ * - A file of 4 bytes or more is tried for its kind before its length: 2 says that it is another file, whole or cut short, and 1 that it
+ *   is of the kind expected and cut short. Under 4 bytes there is no kind to try, and it is 1.
  * - A string of n bits is packed into CORKHOLLOW_WIDTH(n) bytes, bit 0 highest in the first byte. Where n is no multiple of 8, the spare
  *   low bits of the last byte must be 0: clear them in random bytes. README.md has the layout of the files.
  * - It keeps nothing between calls, makes no random bits and always returns.
@@ -48,9 +50,9 @@ extern "C" {
 /* Why an operation was refused. Where a call breaks several rules, each function says below which it tries first. */
 enum corkhollow_refusal {
     CORKHOLLOW_OK = 0,
-    CORKHOLLOW_SHORT = 1,       /* a matrix file under 8 bytes or shorter than its length field, a program file under 14, an instruction
-                                   cut short */
-    CORKHOLLOW_KIND = 2,        /* the first record is not of the kind expected */
+    CORKHOLLOW_SHORT = 1,       /* a file under 4 bytes; a matrix file under 8 bytes or shorter than its length field, a program file under
+                                   14, an instruction cut short */
+    CORKHOLLOW_KIND = 2,        /* the first record is not of the kind expected: another file, however much of it is there */
     CORKHOLLOW_SIZE = 3,        /* rows, columns, weights, registers, inputs, outputs, instructions or output words outside the limits */
     CORKHOLLOW_LENGTH = 4,      /* a length field that is not what the header requires, or bytes left over */
     CORKHOLLOW_BIT = 5,         /* a spare bit set, an entry neither 0 nor 1, or an entry of a list that is no signed sample */
@@ -94,7 +96,7 @@ enum corkhollow_refusal {
 
 /*
  * Reads a matrix file: its entries, a byte of 0 or 1 each, row after row, at the front of `entries`, and its sizes.
- * Refusals, in the order tried: 1, 2, 3, 4, 5, 6 for the file; 13 for `entries` under rows * columns.
+ * Refusals, in the order tried: 1 under 4 bytes, 2, 1, 3, 4, 5, 6 for the file; 13 for `entries` under rows * columns.
  */
 uint32_t corkhollow_read(const uint8_t *file, size_t file_length,
                          uint8_t *entries, size_t entries_length,
@@ -124,7 +126,7 @@ uint32_t corkhollow_build(const uint32_t *weights, size_t weights_length,
  * Walks a matrix file on one packed string of as many bits as it has columns: the row that is hit, or CORKHOLLOW_MISS, and how many
  * columns the walk used, one bit each: c + 1 for a hit in column c, counted from 0, and all columns for a miss. No later bit has any
  * bearing on the row. What the walk used says something of the row: keep it as secret.
- * Refusals, in the order tried: 1, 2, 3, 4, 5, 6 for the file; 13, then 5 for the string.
+ * Refusals, in the order tried: 1 under 4 bytes, 2, 1, 3, 4, 5, 6 for the file; 13, then 5 for the string.
  */
 uint32_t corkhollow_walk(const uint8_t *file, size_t file_length,
                          const uint8_t *string, size_t string_length,
@@ -133,7 +135,7 @@ uint32_t corkhollow_walk(const uint8_t *file, size_t file_length,
 /*
  * Adds up the columns that the walks on 64 packed strings use, one string after another, of as many bits each as the matrix file has
  * columns: the bits that 64 samples cost where a walk takes them one by one. The total is from 64 to 64 * columns. Keep it secret too.
- * Refusals, in the order tried: 1, 2, 3, 4, 5, 6 for the file; 13, then 5 for `strings`.
+ * Refusals, in the order tried: 1 under 4 bytes, 2, 1, 3, 4, 5, 6 for the file; 13, then 5 for `strings`.
  */
 uint32_t corkhollow_spent(const uint8_t *file, size_t file_length,
                           const uint8_t *strings, size_t strings_length,
@@ -143,7 +145,7 @@ uint32_t corkhollow_spent(const uint8_t *file, size_t file_length,
 
 /*
  * Compiles a matrix file to a program file, and tells its length.
- * Refusals, in the order tried: 1, 2, 3, 4, 5, 6 for the file; 13 for `program`.
+ * Refusals, in the order tried: 1 under 4 bytes, 2, 1, 3, 4, 5, 6 for the file; 13 for `program`.
  */
 uint32_t corkhollow_compile(const uint8_t *file, size_t file_length,
                             uint8_t *program, size_t program_length,
@@ -151,7 +153,8 @@ uint32_t corkhollow_compile(const uint8_t *file, size_t file_length,
 
 /*
  * Checks a program file: the registers, inputs and outputs that it takes, and its number of instructions.
- * Refusals, in the order tried: 1, 2, 3, 4 for the header; 1, 7, 8, 9 for each instruction in turn; 4 for bytes left over; 10.
+ * Refusals, in the order tried: 1 under 4 bytes, 2, 1, 3, 4 for the header; 1, 7, 8, 9 for each instruction in turn; 4 for bytes
+ * left over; 10.
  */
 uint32_t corkhollow_check(const uint8_t *program, size_t program_length,
                           size_t *registers, size_t *inputs, size_t *outputs, uint32_t *count);

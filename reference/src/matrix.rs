@@ -1,8 +1,8 @@
 //! 01, "Matrix and walk" and "Files": matrices as values, and matrix files.
 
 use crate::natural::Natural;
-use crate::record::{field, has_spare_bit, pack, packed_length, put, unpack};
-use crate::refusal::{refuse, Answer, BIT, BUFFER, KIND, LENGTH, SHORT, SIZE, TOTAL};
+use crate::record::{expect_kind, field, has_spare_bit, pack, packed_length, put, unpack};
+use crate::refusal::{refuse, Answer, BIT, BUFFER, LENGTH, SHORT, SIZE, TOTAL};
 
 /// The most rows of a matrix.
 pub const MOST_ROWS: usize = 128;
@@ -104,12 +104,13 @@ pub fn file_length(rows: usize, columns: usize) -> usize {
     MATRIX_HEADER + rows * packed_length(columns)
 }
 
-/// The matrix of a file, or its refusal: 1 to 6 in that order.
+/// The matrix of a file, or its refusal: 1 and 2 of its first four bytes, then 1, 3, 4, 5 and 6 of
+/// the whole, in that order.
 pub fn decode(file: &[u8]) -> Answer<Matrix> {
+    expect_kind(file, MATRIX_KIND)?;
     refuse(SHORT, file.len() < MATRIX_HEADER)?;
     let length = field(file, 0);
     refuse(SHORT, file.len() < length)?;
-    refuse(KIND, field(file, 2) != MATRIX_KIND)?;
     let (rows, columns) = (field(file, 4), field(file, 6));
     refuse(SIZE, !are_sizes(rows, columns))?;
     refuse(LENGTH, length != file_length(rows, columns))?;

@@ -1,9 +1,7 @@
 //! 01, "Files": the description of a program, its bytes, and its checks.
 
-use crate::record::{field, put};
-use crate::refusal::{
-    refuse, Answer, INSTRUCTION, KIND, LENGTH, OPERAND, SHORT, SIZE, UNSET, UNWRITTEN,
-};
+use crate::record::{expect_kind, field, put};
+use crate::refusal::{refuse, Answer, INSTRUCTION, LENGTH, OPERAND, SHORT, SIZE, UNSET, UNWRITTEN};
 
 /// The most registers of a program.
 pub const MOST_REGISTERS: usize = 1_024;
@@ -232,10 +230,10 @@ pub fn decode(file: &[u8]) -> Answer<Program> {
     })
 }
 
-/// The header of a program file: 1, 2, 3, 4.
+/// The header of a program file: 1 and 2 of its first four bytes, then 1, 3 and 4 of the whole.
 fn decode_header(file: &[u8]) -> Answer<Header> {
+    expect_kind(file, PROGRAM_KIND)?;
     refuse(SHORT, file.len() < PROGRAM_HEADER)?;
-    refuse(KIND, field(file, 2) != PROGRAM_KIND)?;
     let header = Header {
         registers: field(file, 4),
         inputs: field(file, 6),
@@ -247,7 +245,8 @@ fn decode_header(file: &[u8]) -> Answer<Header> {
     Ok(header)
 }
 
-/// The instruction at the front of the bytes left: 1, 7.
+/// The instruction at the front of the bytes left: 1, 7. It is no first record, so that its kind is
+/// tried after its shortness.
 fn decode_instruction(rest: &[u8]) -> Answer<Instruction> {
     refuse(SHORT, rest.len() < 4)?;
     let (length, kind) = (field(rest, 0), field(rest, 2));

@@ -1,5 +1,7 @@
 //! 01, "Files": record fields of 16 bits, and bits packed with the first in the highest bit of the
-//! first byte.
+//! first byte. 02, order 3: the kind of a file's first record.
+
+use crate::refusal::{refuse, Answer, KIND, SHORT};
 
 /// The 16-bit little-endian field at byte `at`.
 pub fn field(bytes: &[u8], at: usize) -> usize {
@@ -10,6 +12,18 @@ pub fn field(bytes: &[u8], at: usize) -> usize {
 pub fn put(bytes: &mut Vec<u8>, value: usize) {
     let value = u16::try_from(value).expect("a field has 16 bits");
     bytes.extend_from_slice(&value.to_le_bytes());
+}
+
+/// The kind of a file's first record, which a file under four bytes does not tell.
+fn first_kind(file: &[u8]) -> Option<usize> {
+    file.get(2..4).map(|kind| field(kind, 0))
+}
+
+/// 02, order 3: what a file of either sort is tried for before all else. 1 where it does not tell
+/// its kind, then 2 where that is not the one expected.
+pub fn expect_kind(file: &[u8], expected: usize) -> Answer<()> {
+    let kind = first_kind(file).ok_or(SHORT)?;
+    refuse(KIND, kind != expected)
 }
 
 /// ceil(n / 8): the bytes that `bits` packed bits take.

@@ -74,7 +74,7 @@ const ANSWERS: [(&str, &str); 20] = [
     ("a", "0 3 d"),
     ("b", "0 3 d"),
     ("c", "0 1 2 3 4 5 7 8 9 a d"),
-    ("d", "0 5 d"),
+    ("d", "0 1 2 3 4 5 7 8 9 a d"),
     ("e", "0 1 2 3 4 5 6 d"),
     ("f", "0 5 d e"),
     ("10", "0 1 2 3 4 5 6"),
@@ -83,6 +83,34 @@ const ANSWERS: [(&str, &str); 20] = [
     ("13", "0 1 3 4"),
     ("14", "0"),
 ];
+
+/// 02, order 3: the cut files that it speaks of are given to each operation that takes a file.
+#[test]
+fn foreign_short_files_are_given_to_every_operation() {
+    let lines = lines(1);
+    let answered = |task: &str, file: &str, number: &str| {
+        let found = lines.iter().any(|line| {
+            let (given, answer) = line.trim_end().split_once(" = ").unwrap();
+            given.split(' ').take(2).eq([task, file]) && answer == number
+        });
+        assert!(found, "{task} {file} .. = {number}");
+    };
+    // 13 bytes of the program that 01 lists, and of a matrix of three rows and eleven columns.
+    let program = "0e0010000a00010002000c0000";
+    let matrix = "0e00200003000b00802020005f";
+    let of_matrix = ["1", "4", "5", "e", "10"].map(|task| (task, program));
+    let of_program = ["6", "7", "8", "c", "d"].map(|task| (task, matrix));
+    for (task, foreign) in of_matrix.into_iter().chain(of_program) {
+        answered(task, &foreign[..2 * 3], "1");
+        for bytes in [4, 7, 8, 13] {
+            answered(task, &foreign[..2 * bytes], "2");
+        }
+    }
+    for bytes in 4..=13 {
+        answered("1", &program[..2 * bytes], "2");
+        answered("6", &matrix[..2 * bytes], "2");
+    }
+}
 
 /// README, "How large the fields get": task, field, digits an element (0 for a number), the most.
 const SIZES: [(&str, usize, usize, u64); 40] = [

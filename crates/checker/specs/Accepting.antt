@@ -94,7 +94,7 @@ sets-right o (i ∷ is) js x = inr (sets-right o is js x)
 
 -- ---- the checker's tests
 -- a list adds its numbers to a test, and nothing else
-also-holds : (t : ℕ → Bool) (xs : List ℕ) (r : ℕ) → OneOf xs r ⊎ (t r ≡ true) → also t xs r ≡ true
+pub also-holds : (t : ℕ → Bool) (xs : List ℕ) (r : ℕ) → OneOf xs r ⊎ (t r ≡ true) → also t xs r ≡ true
 unfolding also
 also-holds t [] r (inl e) = absurd e
 also-holds t [] r (inr e) = e

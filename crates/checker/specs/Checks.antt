@@ -51,9 +51,14 @@ codeOf (suc n) p written set bytes = do
 abbrev pub nothing : ℕ → Bool
 nothing r = false
 
+-- the instructions of a program file, behind its header
+abbrev pub bodyOf : List ℕ → Program → Outcome Code
+bodyOf file p = do
+  is ← codeOf (p .count) p nothing nothing (drop header-length file)
+  gives (record { program = p; instructions = is })
+
 -- a program file: header first, then its instructions
 unfoldable pub checkOf : List ℕ → Outcome Code
 checkOf file = do
   p ← headerOf file
-  is ← codeOf (p .count) p nothing nothing (drop header-length file)
-  gives (record { program = p; instructions = is })
+  bodyOf file p

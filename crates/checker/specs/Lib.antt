@@ -6,3 +6,4 @@ pub mod GateRuns
 pub mod Checking
 pub mod Accepting
 pub mod Encoding
+pub mod Foreign

@@ -13,7 +13,7 @@ use Rattle.laws.specs.Lists.{blocks, upto}
 use Rattle.laws.specs.Outcome.{Outcome, refused, gives, mapped, _>>=_}
 use Rattle.fields.specs.Fields.{fieldOf, packedBit, padded, packed, spare}
 use Rattle.files.specs.Matrix.{bit, p, total, ones-in}
-use Rattle.files.specs.Files.{fileLength, headerBytes, matrixFile, headerOf, unpacked, bodyOf, matrixOf, readOf, writeOf}
+use Rattle.files.specs.Files.{fileLength, headerBytes, matrixFile, sizesOf, headerOf, unpacked, bodyOf, matrixOf, readOf, writeOf}
 use Rattle.fields.specs.Strings.{stringsOf}
 use Rattle.weights.specs.Weights.{sum, share, built, buildOf}
 use Rattle.programs.specs.declared.description.Program.{Program}
@@ -22,7 +22,7 @@ use Rattle.programs.specs.declared.description.Instruction.the-variants.{Ones, 
 use Rattle.programs.specs.Records.{recordBytes}
 use Rattle.programs.specs.Instructions.{instructionBytes, decodeOf, sizedOf}
 use Rattle.programs.specs.Header.{codeBytes, programFile, headerOf as programHeaderOf, headerBytes as programHeader}
-use Rattle.programs.specs.Header.{numbersOf as programNumbers}
+use Rattle.programs.specs.Header.{numbersOf as programNumbers, limitsOf as programLimits}
 use Rattle.machine.specs.Meaning.{exec}
 use Rattle.checker.specs.Checks.{checkOf, codeOf, instructionOf, also}
 use Rattle.machine.specs.Runs.{startOf, startOn, runOf}
@@ -169,8 +169,8 @@ all-come (c ∷ cs) e =
 -- ---- the table holds
 pub cases-hold : All-come cases
 unfolding three-rows too-much one-row two-rows listed listing cases comes all-agree agrees same toldOf numbersOf sumTo any number digit
-    blocks upto fieldOf packedBit padded packed spare bit p total ones-in headerBytes matrixFile headerOf unpacked bodyOf matrixOf readOf
-    writeOf sum share built buildOf stringsOf at scan then walk drawn used walkOf recordBytes instructionBytes decodeOf sizedOf codeBytes
-    programFile programHeaderOf programHeader programNumbers exec checkOf codeOf instructionOf also startOn runOf bitsToWrite rowBits
-    ifSet marks liveBefore column translation program compiled compileOf
+    blocks upto fieldOf packedBit padded packed spare bit p total ones-in headerBytes matrixFile sizesOf headerOf unpacked bodyOf matrixOf
+    readOf writeOf sum share built buildOf stringsOf at scan then walk drawn used walkOf recordBytes instructionBytes decodeOf sizedOf
+    codeBytes programFile programHeaderOf programHeader programNumbers programLimits exec checkOf codeOf instructionOf also startOn runOf
+    bitsToWrite rowBits ifSet marks liveBefore column translation program compiled compileOf
 cases-hold = all-come cases refl

@@ -10,4 +10,5 @@ pub mod Values
 pub mod Parts
 pub mod Wide
 pub mod WideDraws
+pub mod Foreign
 pub mod Cases

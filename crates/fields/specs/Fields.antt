@@ -9,8 +9,9 @@ use borrow.Author.Tests.{lt-ltb, le-ltb, eq-eqb, eqb-true, not-false}
 use native.Mathlib.Omega.{arith}
 use lib.Bits.{bitAnd, and-mask}
 use lib.Dec.{eqb, ltb}
-use lib.ListN.{length, getD, set, length-set, List·getD-eq-default}
+use lib.ListN.{length, getD, take, set, length-set, List·getD-eq-default}
 use lib.Pow.{pow-pos, shl-exact}
+use lib.Seq.{getD-take}
 use Rattle.laws.specs.Tests.{lt-or-ge}
 use Rattle.laws.specs.Digits.{number, digit, digit-le, digit-number, number-shift, low-digits, number-zero, zero-digits}
 use Rattle.laws.specs.Lists.{blocks, upto, upto-eq, getD-blocks, getD-upto, length-upto}
@@ -83,6 +84,11 @@ module _ (bytes : List ℕ) (at : ℕ) where
   pub bit-read : (i : ℕ) → bitAnd (getD bytes (at + i / 8) 0 / 2 ^ (7 - i % 8)) 1 ≡ bitOf bytes at i
   unfolding packedBit digit
   bit-read i = and-mask (getD bytes (at + i / 8) 0 / 2 ^ (7 - i % 8)) 1
+
+-- a field that lies in the front of some bytes is that front's
+pub field-front : (n : ℕ) (bytes : List ℕ) (at : ℕ) → at + 1 < n → fieldOf (take n bytes) at ≡ fieldOf bytes at
+unfolding fieldOf
+field-front n bytes at h = rw (getD-take n bytes at 0 (omega arith), getD-take n bytes (at + 1) 0 h)
 
 pub bit-le : (per : ℕ) (bytes : List ℕ) (at i : ℕ) → packedBit per bytes at i ≤ 1
 unfolding packedBit

@@ -3,3 +3,4 @@ pub mod Refusal
 pub mod Limits
 pub mod Fields
 pub mod Strings
+pub mod Foreign

@@ -20,23 +20,33 @@ use Rattle.files.specs.Matrix.{Matrix, Sizes, sizes, sizesOutside, bit, 
 use Rattle.files.specs.Matrices.{tabled-bit}
 use Rattle.files.specs.Sizes.{sizes-refuse}
 use Rattle.files.specs.Live.{total-from, rowsFit}
-use Rattle.files.specs.Files.{fileLength, headerOf, bodyOf, matrixOf, readOf, unpacked, Whole}
+use Rattle.files.specs.Files.{fileLength, sizesOf, headerOf, bodyOf, matrixOf, readOf, unpacked, Whole}
 
 -- ---- the header: how far it came
 module _ (file : List ℕ) where
-  pub header-short : length file < 8 → refused 1 ≡ headerOf file
+  pub header-few : length file < 4 → refused 1 ≡ headerOf file
   unfolding headerOf
-  header-short a = rw (lt-ltb (length file) 8 a)
+  header-few a = rw (lt-ltb (length file) 4 a)
 
-  module _ (a : 8 ≤ length file) where
-    pub header-cut : length file < fieldOf file 0 → refused 1 ≡ headerOf file
+  module _ (a : 4 ≤ length file) where
+    pub header-kind : (fieldOf file 2 ≡ 32 → ⊥) → refused 2 ≡ headerOf file
     unfolding headerOf
-    header-cut b = rw (le-ltb (length file) 8 a, lt-ltb (length file) (fieldOf file 0) b)
+    header-kind k = rw (le-ltb (length file) 4 a, ne-eqb (fieldOf file 2) 32 k)
 
-    module _ (b : fieldOf file 0 ≤ length file) where
-      pub header-kind : (fieldOf file 2 ≡ 32 → ⊥) → refused 2 ≡ headerOf file
+    module _ (k : fieldOf file 2 ≡ 32) where
+      pub header-short : length file < 8 → refused 1 ≡ headerOf file
       unfolding headerOf
-      header-kind k = rw (le-ltb (length file) 8 a, le-ltb (length file) (fieldOf file 0) b, ne-eqb (fieldOf file 2) 32 k)
+      header-short b = rw (le-ltb (length file) 4 a, eq-eqb (fieldOf file 2) 32 k, lt-ltb (length file) 8 b)
+
+      pub header-cut : 8 ≤ length file → length file < fieldOf file 0 → refused 1 ≡ headerOf file
+      unfolding headerOf
+      header-cut b c =
+          rw (
+            le-ltb (length file) 4 a,
+            eq-eqb (fieldOf file 2) 32 k,
+            le-ltb (length file) 8 b,
+            lt-ltb (length file) (fieldOf file 0) c,
+          )
 
 -- what has passed before the sizes are tried, with the fields as they were read
 pub record Kinded (file : List ℕ) (len m n : ℕ) : Type 0 where
@@ -51,16 +61,17 @@ module _ {file : List ℕ} {len m n : ℕ} (k : Kinded file len m n) where
   past-kind : headerOf file ≡
       (refuse 3 (sizesOutside m n) >> (refuse 4 (not (eqb len (fileLength m n))) >>
       (refuse 4 (not (eqb (length file) len)) >> gives (record { rows = m; columns = n }))))
-  unfolding headerOf
+  unfolding headerOf sizesOf
   past-kind =
       let there : fieldOf file 0 ≤ length file = rw (k .length-is) at (k .there) in
       rw (
         k .length-is,
         k .rows-is,
         k .columns-is,
+        le-ltb (length file) 4 (omega (arith, k .long)),
+        eq-eqb (fieldOf file 2) 32 (k .kind-is),
         le-ltb (length file) 8 (k .long),
         le-ltb (length file) (fieldOf file 0) there,
-        eq-eqb (fieldOf file 2) 32 (k .kind-is),
       ) (sizes-refuse (fieldOf file 4) (fieldOf file 6) _)
 
   pub header-sizes : sizesOutside m n ≡ true → refused 3 ≡ headerOf file
@@ -86,21 +97,22 @@ pub record Header (file : List ℕ) (s : Sizes) : Type 0 where
   pub columns-is : fieldOf file 6 ≡ s .columns
 
 pub header-says : (file : List ℕ) (s : Sizes) → headerOf file ≡ gives s → Header file s
-unfolding headerOf
+unfolding headerOf sizesOf
 header-says file s e =
-    let c1 = passed 1 (ltb (length file) 8) _ s e in
-    let c2 = passed 1 (ltb (length file) (fieldOf file 0)) _ s (c1 .1) in
-    let c3 = passed 2 _ _ s (c2 .1) in
-    let c4 = passed 3 _ _ s (c3 .1) in
+    let c1 = passed 1 (ltb (length file) 4) _ s e in
+    let c2 = passed 2 (not (eqb (fieldOf file 2) 32)) _ s (c1 .1) in
+    let c3 = passed 1 (ltb (length file) 8) _ s (c2 .1) in
+    let c4 = passed 1 (ltb (length file) (fieldOf file 0)) _ s (c3 .1) in
     let c5 = passed 3 _ _ s (c4 .1) in
-    let c6 = passed 4 _ _ s (c5 .1) in
+    let c6 = passed 3 _ _ s (c5 .1) in
     let c7 = passed 4 _ _ s (c6 .1) in
-    let r = within most-rows (fieldOf file 4) (c4 .0) in
-    let c = within most-columns (fieldOf file 6) (c5 .0) in
-    let k = eqb-true _ _ (not-false _ (c3 .0)) in
-    let l = eqb-true _ _ (not-false _ (c6 .0)) in
-    let e = eqb-true _ _ (not-false _ (c7 .0)) in
-    subst (Header file) (gives-inj (c7 .1))
+    let c8 = passed 4 _ _ s (c7 .1) in
+    let r = within most-rows (fieldOf file 4) (c5 .0) in
+    let c = within most-columns (fieldOf file 6) (c6 .0) in
+    let k = eqb-true _ _ (not-false _ (c2 .0)) in
+    let l = eqb-true _ _ (not-false _ (c7 .0)) in
+    let e = eqb-true _ _ (not-false _ (c8 .0)) in
+    subst (Header file) (gives-inj (c8 .1))
     (record {
       sized = record { some-rows = r .0; few-rows = r .1; some-columns = c .0; few-columns = c .1; long = e ∙ l };
       length-is = l;

@@ -32,17 +32,23 @@ rowBytes M = blocks (M .rows) (λ v. packed (M .columns) (bit M v))
 unfoldable pub matrixFile : Matrix → List ℕ
 matrixFile M = headerBytes (M .rows) (M .columns) ++ rowBytes M
 
--- a matrix file's header: refusals 1 to 4, or its sizes
-unfoldable pub headerOf : List ℕ → Outcome Sizes
-headerOf file = do
-  refuse 1 (ltb (length file) 8)
-  refuse 1 (ltb (length file) (fieldOf file 0))
-  refuse 2 (not (eqb (fieldOf file 2) 32))
+-- the sizes of a header that is there and of its kind: refusals 3 and 4, or rows and columns
+unfoldable pub sizesOf : List ℕ → Outcome Sizes
+sizesOf file = do
   refuse 3 (outside most-rows (fieldOf file 4))
   refuse 3 (outside most-columns (fieldOf file 6))
   refuse 4 (not (eqb (fieldOf file 0) (fileLength (fieldOf file 4) (fieldOf file 6))))
   refuse 4 (not (eqb (length file) (fieldOf file 0)))
   gives (record { rows = fieldOf file 4; columns = fieldOf file 6 })
+
+-- a matrix file's header: where four bytes are there, the kind is tried before the length (02, order 3); then its sizes
+unfoldable pub headerOf : List ℕ → Outcome Sizes
+headerOf file = do
+  refuse 1 (ltb (length file) 4)
+  refuse 2 (not (eqb (fieldOf file 2) 32))
+  refuse 1 (ltb (length file) 8)
+  refuse 1 (ltb (length file) (fieldOf file 0))
+  sizesOf file
 
 -- the matrix whose rows are packed one after another: row v begins at byte v * width n
 unfoldable pub unpacked : List ℕ → Sizes → Matrix

@@ -7,3 +7,4 @@ pub mod Live
 pub mod Checks
 pub mod Writing
 pub mod RoundTrip
+pub mod Foreign

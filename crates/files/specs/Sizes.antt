@@ -1,12 +1,12 @@
 -- Rows and columns within their limits: what that says, and how the checks try it. Assumes nothing.
 use Prim.Native.Nat.{ℕ, _+_, _*_, _≤_, _<_}
 use mathlib.Core.Path.{_≡_, refl}
-use mathlib.Core.Bool.{Bool, true, false, _||_}
+use mathlib.Core.Bool.{false}
 use native.Mathlib.Omega.{arith}
 use native.Mathlib.Nat.{mul-le-mul}
 use Rattle.laws.specs.Tests.{neither}
 use Rattle.laws.specs.Lists.{row-end}
-use Rattle.laws.specs.Outcome.{Outcome, refuse, _>>_}
+use Rattle.laws.specs.Outcome.{Outcome, refuse, _>>_, refuse-either}
 use Rattle.fields.specs.Limits.{most-columns, outside, within}
 use Rattle.fields.specs.Fields.{width}
 use Rattle.files.specs.Matrix.{most-rows, sizesOutside}
@@ -30,11 +30,7 @@ module _ (m n : ℕ) where
   -- the two checks of the sizes are one
   pub sizes-refuse : {A : Type 0} (rest : Outcome A) →
       (refuse 3 (outside most-rows m) >> (refuse 3 (outside most-columns n) >> rest)) ≡ (refuse 3 (sizesOutside m n) >> rest)
-  sizes-refuse {A} rest = go (outside most-rows m)
-    where
-      go : (a : Bool) → (refuse 3 a >> (refuse 3 (outside most-columns n) >> rest)) ≡ (refuse 3 (a || outside most-columns n) >> rest)
-      go true = refl
-      go false = refl
+  sizes-refuse rest = refuse-either 3 (outside most-rows m) (outside most-columns n) rest
 
   -- no product of sizes within their limits is large
   pub few-cells : sizesOutside m n ≡ false → m * n ≤ 16384

@@ -41,19 +41,22 @@ fn file_length(rows: usize, columns: usize) -> usize
     8 + rows * width(columns)
 }
 
-// The header's checks, 1 to 4.
+// The header's checks: 1 for under four bytes, 2, 1 for what is cut short, 3, 4 (02, order 3).
 pub(crate) fn read_header(file: &[u8]) -> Checked
     ensures { λ r. ⌜ checked r ≡ headerOf (now (file .entry)) ⌝ }
 {
+    if file.len() < 4 {
+        return Checked::Refused(Refusal::Short);
+    }
+    if field(file, 2) != 32 {
+        return Checked::Refused(Refusal::Kind);
+    }
     if file.len() < 8 {
         return Checked::Refused(Refusal::Short);
     }
     let length = field(file, 0);
     if file.len() < length {
         return Checked::Refused(Refusal::Short);
-    }
-    if field(file, 2) != 32 {
-        return Checked::Refused(Refusal::Kind);
     }
     let rows = field(file, 4);
     let columns = field(file, 6);

@@ -34,7 +34,7 @@ fn body(file: &[u8], rows: usize, columns: usize) -> Checked
     }
 }
 
-// Checks a matrix file: its rows and columns, or refusal 1 to 6.
+// Checks a matrix file: its rows and columns, or refusal 1 to 6, of which 2 is tried before 1 where four bytes are there.
 pub fn check(file: &[u8]) -> Checked
     ensures { λ r. ⌜ checked r ≡ mapped sizes (matrixOf (now (file .entry))) ⌝ }
 {

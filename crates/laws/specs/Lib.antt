@@ -6,4 +6,5 @@ pub mod Words
 pub mod Lists
 pub mod Lay
 pub mod Outcome
+pub mod Changes
 pub mod Every

@@ -3,7 +3,7 @@
 -- Assumes nothing.
 use Prim.Native.Nat.{ℕ}
 use mathlib.Core.Path.{_≡_, refl, sym, ap}
-use mathlib.Core.Bool.{Bool, true, false}
+use mathlib.Core.Bool.{Bool, true, false, _||_}
 use mathlib.Core.List.{List, []}
 use native.Mathlib.Omega.{arith}
 use Rattle.laws.specs.Lay.{lay, lay-nothing}
@@ -82,6 +82,12 @@ pub ends-given : {A B C : Type 0} (f : A → B) (g : A → List C) (a : A) (b : 
 ends-given f g a b o buf buf′ e q l = rw e (ap gives q, l)
 
 -- ---- checks one after another
+-- two checks with one refusal are one
+pub refuse-either : {A : Type 0} (n : ℕ) (a b : Bool) (rest : Outcome A) →
+    (refuse n a >> (refuse n b >> rest)) ≡ (refuse n (a || b) >> rest)
+refuse-either n true b rest = refl
+refuse-either n false b rest = refl
+
 module _ {A B : Type 0} where
   pub bind-eq : (o : Outcome A) (k h : A → Outcome B) → ((a : A) → o ≡ gives a → k a ≡ h a) → (o >>= k) ≡ (o >>= h)
   bind-eq (refused n) k h e = refl

@@ -1,5 +1,5 @@
 -- What the lister needs of compiling and of instructions, and why it reads no more than the front of a long file. Assumes nothing.
-use Prim.Native.Nat.{ℕ, _+_, _≤_, _<_}
+use Prim.Native.Nat.{ℕ, _≤_, _<_}
 use mathlib.Core.Path.{_≡_, refl}
 use mathlib.Core.Bool.{Bool, true, false, not, cond}
 use mathlib.Core.List.{List}
@@ -7,12 +7,12 @@ use native.Mathlib.Omega.{arith}
 use borrow.Author.Tests.{le-ltb, ne-eqb}
 use lib.Dec.{eqb}
 use lib.ListN.{length, getD, take}
-use lib.Seq.{getD-take, length-take-le}
+use lib.Seq.{length-take-le}
 use Rattle.laws.specs.Outcome.{Outcome, refused, gives, refuse, _>>_, mapped, mapped-gives}
-use Rattle.fields.specs.Fields.{fieldOf, field-small}
+use Rattle.fields.specs.Fields.{fieldOf, field-small, field-front}
 use Rattle.files.specs.Matrix.{Sizes, most-rows}
 use Rattle.fields.specs.Limits.{outside, most-columns}
-use Rattle.files.specs.Files.{fileLength, headerOf, matrixOf}
+use Rattle.files.specs.Files.{fileLength, sizesOf, headerOf, matrixOf}
 use Rattle.programs.specs.Instructions.{lengthOf}
 use Rattle.programs.specs.declared.description.Instruction.{Instruction}
 use Rattle.programs.specs.declared.description.Instruction.the-variants.{Ones, Zero, Input, Not, And, Or, Output}
@@ -51,19 +51,16 @@ long-checks false false false false = refl
 
 long-header : (file : List ℕ) → 8 ≤ length file → fieldOf file 0 < length file →
     headerOf file ≡ refused (longNumber (fieldOf file 2) (fieldOf file 4) (fieldOf file 6))
-unfolding headerOf longNumber
+unfolding headerOf sizesOf longNumber
 long-header file a b =
     rw (
+      le-ltb (length file) 4 (omega arith),
       le-ltb (length file) 8 a,
       le-ltb (length file) (fieldOf file 0) (omega arith),
       ne-eqb (length file) (fieldOf file 0) (λ e. omega arith),
     )
     (long-checks (not (eqb (fieldOf file 2) 32)) (outside most-rows (fieldOf file 4)) (outside most-columns (fieldOf file 6))
     (not (eqb (fieldOf file 0) (fileLength (fieldOf file 4) (fieldOf file 6)))))
-
-field-front : (most : ℕ) (file : List ℕ) (at : ℕ) → at + 1 < most → fieldOf (take most file) at ≡ fieldOf file at
-unfolding fieldOf
-field-front most file at h = rw (getD-take most file at 0 (omega arith), getD-take most file (at + 1) 0 h)
 
 -- so the front of such a file, if it too is longer than any length field, comes to what all of the file does
 pub front-decides : (most : ℕ) (file : List ℕ) (room : ℕ) → ((i : ℕ) → getD file i 0 < 256) → 65536 ≤ most → most ≤ length file →

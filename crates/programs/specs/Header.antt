@@ -37,14 +37,20 @@ numbersOf file =
       count = fieldOf file 10 + 65536 * fieldOf file 12;
     }
 
--- the header at the front of a file: refusals 1 to 4
+-- a header that is there and of its kind, with the numbers p: refusals 3 and 4
+unfoldable pub limitsOf : List ℕ → Program → Outcome Program
+limitsOf file p = do
+  refuse 3 (not (within p))
+  refuse 4 (not (eqb (fieldOf file 0) header-length))
+  gives p
+
+-- the header at the front of a file: where four bytes are there, the kind is tried before the length (02, order 3); then its numbers
 unfoldable pub headerOf : List ℕ → Outcome Program
 headerOf file = do
-  refuse 1 (ltb (length file) header-length)
+  refuse 1 (ltb (length file) 4)
   refuse 2 (not (eqb (fieldOf file 2) header-kind))
-  refuse 3 (not (within (numbersOf file)))
-  refuse 4 (not (eqb (fieldOf file 0) header-length))
-  gives (numbersOf file)
+  refuse 1 (ltb (length file) header-length)
+  limitsOf file (numbersOf file)
 
 -- writing a header at the front of a buffer of `room` bytes: the bytes that are laid down
 unfoldable pub writeHeaderOf : Program → ℕ → Outcome (List ℕ)

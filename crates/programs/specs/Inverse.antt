@@ -16,9 +16,9 @@ use Rattle.fields.specs.Fields.{fieldOf, field-small}
 use Rattle.programs.specs.Limits.{within}
 use Rattle.programs.specs.Records.{recordBytes}
 use Rattle.programs.specs.Reading.{length-fields, length-instruction, encode-gives}
-use Rattle.programs.specs.Reading.{header-long, afterKind, header-numbers, write-header-gives}
+use Rattle.programs.specs.Reading.{header-long, header-numbers, write-header-gives}
 use Rattle.programs.specs.Instructions.{ofKind, sizedOf, kindOf, lengthOf, operandsOf, instructionBytes, encodeOf, decodeOf, decodeAt}
-use Rattle.programs.specs.Header.{header-length, header-kind, headerBytes, headerOf, writeHeaderOf, numbersOf}
+use Rattle.programs.specs.Header.{header-length, header-kind, headerBytes, headerOf, limitsOf, writeHeaderOf, numbersOf}
 use Rattle.programs.specs.declared.description.Program.{Program}
 use Rattle.programs.specs.declared.description.Instruction.{Instruction}
 use Rattle.programs.specs.declared.description.Instruction.the-variants.{Ones, Zero, Input, Not, And, Or, Output}
@@ -117,18 +117,19 @@ pub record HeaderReads (file : List ℕ) (p : Program) : Type 0 where
   pub numbers : numbersOf file ≡ p
 
 pub header-reads : (file : List ℕ) (p : Program) → headerOf file ≡ gives p → HeaderReads file p
-unfolding headerOf
+unfolding headerOf limitsOf
 header-reads file p e =
-    let c1 = passed 1 (ltb (length file) header-length) _ p e in
+    let c1 = passed 1 (ltb (length file) 4) _ p e in
     let c2 = passed 2 (not (eqb (fieldOf file 2) header-kind)) _ p (c1 .1) in
-    let c3 = passed 3 (not (within (numbersOf file))) _ p (c2 .1) in
-    let c4 = passed 4 (not (eqb (fieldOf file 0) header-length)) _ p (c3 .1) in
-    let q : numbersOf file ≡ p = gives-inj (c4 .1) in
+    let c3 = passed 1 (ltb (length file) header-length) _ p (c2 .1) in
+    let c4 = passed 3 (not (within (numbersOf file))) _ p (c3 .1) in
+    let c5 = passed 4 (not (eqb (fieldOf file 0) header-length)) _ p (c4 .1) in
+    let q : numbersOf file ≡ p = gives-inj (c5 .1) in
     record {
-      room = ltb-false (length file) header-length (c1 .0);
-      long = eqb-true (fieldOf file 0) header-length (not-false _ (c4 .0));
+      room = ltb-false (length file) header-length (c3 .0);
+      long = eqb-true (fieldOf file 0) header-length (not-false _ (c5 .0));
       kind = eqb-true (fieldOf file 2) header-kind (not-false _ (c2 .0));
-      inside = ap within (sym q) ∙ not-false _ (c3 .0);
+      inside = ap within (sym q) ∙ not-false _ (c4 .0);
       numbers = q;
     }
 
@@ -161,7 +162,7 @@ unfolding headerBytes recordBytes numbersOf fieldOf
 numbers-written p rest = rw (field-back (p .registers), field-back (p .inputs), field-back (p .outputs), count-back (p .count))
 
 pub header-written : (p : Program) (rest : List ℕ) → within p ≡ true → headerOf (headerBytes p ++ rest) ≡ gives p
-unfolding headerBytes recordBytes fieldOf afterKind
+unfolding headerBytes recordBytes fieldOf limitsOf
 header-written p rest w = header-numbers (headerBytes p ++ rest) (omega arith) refl p (numbers-written p rest) ∙ rw w
 
 -- ---- bytes are written back as they are read

@@ -5,3 +5,4 @@ pub mod Instructions
 pub mod Header
 pub mod Reading
 pub mod Inverse
+pub mod Foreign

@@ -1,22 +1,22 @@
 -- The ways through the checks of an instruction and of a header, and what the limits say. Assumes nothing.
 use Prim.Native.Nat.{ℕ, _+_, _-_, _*_, _/_, _%_, _≤_, _<_}
 use mathlib.Core.Path.{_≡_, refl, sym, ap, _∙_}
-use mathlib.Core.Bool.{true, false, not}
+use mathlib.Core.Bool.{true, false}
 use mathlib.Core.List.{List, [], _∷_}
 use native.Mathlib.Omega.{arith}
 use borrow.Author.Tests.{lt-ltb, le-ltb, ltb-false, le-leb, leb-true, eq-eqb, not-true}
-use lib.Dec.{eqb, ltb}
+use lib.Dec.{ltb}
 use lib.ListN.{length, take, drop, length-drop}
 use Rattle.laws.specs.Tests.{both, neither}
 use Rattle.laws.specs.Lists.{rest-is}
 use Rattle.laws.specs.Lay.{layAt, layAt-nothing}
-use Rattle.laws.specs.Outcome.{Outcome, refused, gives, refuse, mapped, laid, _>>_, _>>=_}
+use Rattle.laws.specs.Outcome.{Outcome, refused, gives, mapped, laid, _>>=_}
 use Rattle.fields.specs.Fields.{fieldOf, fieldBytes}
 use Rattle.fields.specs.Limits.{outside}
 use Rattle.programs.specs.Limits.{most-registers, most-inputs, most-outputs, most-instructions, among, within}
 use Rattle.programs.specs.Records.{recordBytes, length-record, field-after}
 use Rattle.programs.specs.Instructions.{ofKind, sizedOf, kindOf, lengthOf, operandsOf, instructionBytes, encodeOf, decodeOf, decodeAt}
-use Rattle.programs.specs.Header.{header-length, header-kind, headerBytes, headerOf, writeHeaderOf, numbersOf}
+use Rattle.programs.specs.Header.{header-length, header-kind, headerBytes, headerOf, limitsOf, writeHeaderOf, numbersOf}
 use Rattle.programs.specs.declared.description.Program.{Program}
 use Rattle.programs.specs.declared.description.Instruction.{Instruction}
 use Rattle.programs.specs.declared.description.Instruction.the-variants.{Ones, Zero, Input, Not, And, Or, Output}
@@ -118,17 +118,12 @@ module _ (i : Instruction) (at : ℕ) (buf : List ℕ) where
   encode-room long now q h e = rw (encode-gives i at (length buf) h) (ap gives (q ∙ sym (length-instruction i)), e)
 
 -- ---- a header
--- what is left to check of a file that is long enough and of the kind, where its numbers are p
-unfoldable pub afterKind : List ℕ → Program → Outcome Program
-afterKind file p = do
-  refuse 3 (not (within p))
-  refuse 4 (not (eqb (fieldOf file 0) header-length))
-  gives p
-
+-- a file of the kind that has room for a header is tried by what its numbers are
 pub header-numbers : (file : List ℕ) → header-length ≤ length file → fieldOf file 2 ≡ header-kind → (p : Program) → p ≡ numbersOf file →
-    headerOf file ≡ afterKind file p
-unfolding headerOf afterKind
-header-numbers file h k p is-p = rw (le-ltb (length file) header-length h, eq-eqb (fieldOf file 2) header-kind k, is-p)
+    headerOf file ≡ limitsOf file p
+unfolding headerOf
+header-numbers file h k p is-p =
+    rw (le-ltb (length file) 4 (omega arith), eq-eqb (fieldOf file 2) header-kind k, le-ltb (length file) header-length h, is-p)
 
 -- ---- writing a header
 module _ (p : Program) (room : ℕ) where

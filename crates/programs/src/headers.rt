@@ -21,15 +21,18 @@ pub enum Checked {
     Program(Program),
 }
 
-// The header at the front of a file: refusals 1 to 4.
+// The header at the front of a file: refusals 1 for under four bytes, 2, 1 for a header cut short, 3, 4 (02, order 3).
 pub fn read_header(file: &[u8]) -> Checked
     ensures { λ r. ⌜ checked r ≡ headerOf (now (file .entry)) ⌝ }
 {
-    if file.len() < Program::HEADER {
+    if file.len() < 4 {
         return Checked::Refused(Refusal::Short);
     }
     if field(file, 2) != Program::KIND {
         return Checked::Refused(Refusal::Kind);
+    }
+    if file.len() < Program::HEADER {
+        return Checked::Refused(Refusal::Short);
     }
     let p = Program {
         registers: field(file, 4),

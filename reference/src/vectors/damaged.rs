@@ -44,7 +44,8 @@ pub fn fixed(put: &mut dyn FnMut(Line)) {
 }
 
 /// Every fault alone, given to each operation that takes the file, and every two of them together,
-/// given to one.
+/// given to one: these try the order of the checks. Of a cut and another kind it is 2 that answers
+/// (02, order 3).
 fn faults(
     file: &[u8],
     faults: &[Vec<Edit>],
@@ -60,7 +61,7 @@ fn faults(
     }
 }
 
-/// Edits after which rows 10, 01, 01 are refused with 1, 2, 3, 4, 5 and 6.
+/// Edits after each of which rows 10, 01, 01 are refused, with 1, 2, 3, 4, 5 and 6.
 fn matrix_faults(file: &[u8]) -> Vec<Vec<Edit>> {
     let field = |at: usize, value: u16| vec![Edit::Field { at, value }];
     vec![
@@ -73,7 +74,8 @@ fn matrix_faults(file: &[u8]) -> Vec<Vec<Edit>> {
     ]
 }
 
-/// Edits after which the program of one row of one column is refused with 1, 2, 3, 4, 7, 8, 9, 10.
+/// Edits after each of which the program of one row of one column is refused, with 1, 2, 3, 4, 7,
+/// 8, 9 and 10. The 1 is its last instruction's.
 fn program_faults(file: &[u8]) -> Vec<Vec<Edit>> {
     let field = |at: usize, value: u16| Edit::Field { at, value };
     let (first, second, last) = (PROGRAM_HEADER, PROGRAM_HEADER + 6, file.len() - 8);
@@ -94,7 +96,7 @@ fn program_faults(file: &[u8]) -> Vec<Vec<Edit>> {
 }
 
 /// A matrix file given to each operation that takes one, with nothing else in order.
-fn all_uses_of_matrix(file: &[u8], put: &mut dyn FnMut(Line)) {
+pub fn all_uses_of_matrix(file: &[u8], put: &mut dyn FnMut(Line)) {
     put(read(file, 0));
     put(walk(file, &[]));
     put(spent(file, &[]));
@@ -103,7 +105,7 @@ fn all_uses_of_matrix(file: &[u8], put: &mut dyn FnMut(Line)) {
 }
 
 /// A program file given to each operation that takes one, with nothing else in order.
-fn all_uses_of_program(file: &[u8], put: &mut dyn FnMut(Line)) {
+pub fn all_uses_of_program(file: &[u8], put: &mut dyn FnMut(Line)) {
     put(check(file));
     put(start(file, &[], 0, 0, 0));
     put(resume(file, &[], &[], &[], 99, 0));
@@ -134,12 +136,12 @@ pub fn thorough(put: &mut dyn FnMut(Line)) {
 }
 
 /// Three rows of two columns.
-fn small_matrix() -> Vec<u8> {
+pub fn small_matrix() -> Vec<u8> {
     Matrix::from_texts(&["10", "01", "01"]).encode()
 }
 
 /// The program of one row of one column.
-fn least_program() -> Vec<u8> {
+pub fn least_program() -> Vec<u8> {
     translate(&Matrix::from_texts(&["1"])).encode()
 }
 

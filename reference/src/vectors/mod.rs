@@ -4,6 +4,7 @@
 pub mod answer;
 pub mod cases;
 mod damaged;
+mod foreign;
 pub mod line;
 mod runs;
 mod sound;
@@ -25,11 +26,13 @@ pub fn each_given(scale: usize, mut visit: impl FnMut(&str)) {
     let mut put = |line: Line| visit(&line.to_string());
     worked::fixed(&mut put);
     damaged::fixed(&mut put);
+    foreign::fixed(&mut put);
     runs::fixed(&mut put);
     sound::fixed(&mut Random::new(SEED), &mut put);
     wide::fixed(&mut Random::new(SEED), &mut put);
     if scale > 1 {
         damaged::thorough(&mut put);
+        foreign::thorough(&mut put);
         runs::thorough(&mut put);
         wide::thorough(&mut put);
     }

@@ -7,7 +7,7 @@ use reference::matrix::{self, MATRIX_HEADER};
 use reference::program::{
     self, MOST_INPUTS, MOST_INSTRUCTIONS, MOST_OUTPUTS, MOST_REGISTERS, PROGRAM_HEADER,
 };
-use reference::random::Random;
+use reference::random::{self, Random};
 use reference::record::{field, packed_length};
 
 /// Up to this length the reference's list of all edits of a file is short enough.
@@ -41,7 +41,7 @@ pub fn some_faults(random: &mut Random, file: &mut Vec<u8>, fault: fn(&mut Rando
 
 /// One fault of a matrix file.
 pub fn of_matrix(random: &mut Random, file: &mut Vec<u8>) {
-    match random.below(11) {
+    match random.below(12) {
         0 => cut(random, file),
         1 => longer_field(random, file),
         2 => kind(random, file),
@@ -51,13 +51,14 @@ pub fn of_matrix(random: &mut Random, file: &mut Vec<u8>) {
         6 | 7 => spare_bit(random, file),
         8 => more_ones(random, file),
         9 => swap_fields(random, file, 4),
+        10 => foreign(random, file, any_program),
         _ => any_edit(random, file, matrix::check(file).is_ok(), matrix_edits),
     }
 }
 
 /// One fault of a program file.
 pub fn of_program(random: &mut Random, file: &mut Vec<u8>) {
-    match random.below(16) {
+    match random.below(17) {
         0 => cut(random, file),
         1 => kind(random, file),
         2 => program_size(random, file),
@@ -71,6 +72,7 @@ pub fn of_program(random: &mut Random, file: &mut Vec<u8>) {
         12 => unset(random, file),
         13 => move_instruction(random, file),
         14 => swap_fields(random, file, 7),
+        15 => foreign(random, file, any_matrix),
         _ => any_edit(random, file, program::check(file).is_ok(), program_edits),
     }
 }
@@ -95,6 +97,30 @@ fn kind(random: &mut Random, file: &mut Vec<u8>) {
     let any = random.below(65_536);
     let kinds = [0, 1, 15, 16, 17, 31, 32, 33, 272, 288, 4_096, 8_192, any];
     set(file, 2, random.pick(&kinds));
+}
+
+/// 2, or 1 under four bytes: a file of the other sort, or this one with another kind; mostly only the first bytes of it (02, order 3).
+fn foreign(random: &mut Random, file: &mut Vec<u8>, other_sort: fn(&mut Random) -> Vec<u8>) {
+    if random.bit() == 0 {
+        *file = other_sort(random);
+    } else {
+        kind(random, file);
+    }
+    if !random.once_in(4) {
+        file.truncate(random.below(PROGRAM_HEADER + 2));
+    }
+}
+
+/// A small matrix file.
+fn any_matrix(random: &mut Random) -> Vec<u8> {
+    let (rows, columns) = (random.between(1, 9), random.between(1, 17));
+    random::matrix(random, rows, columns).encode()
+}
+
+/// A small program file.
+fn any_program(random: &mut Random) -> Vec<u8> {
+    let body = random.below(16);
+    random::program(random, body).encode()
 }
 
 /// 3: rows or columns outside, and in some of the cases a length field that goes with them.

@@ -130,10 +130,22 @@ fn some_draw(random: &mut Random, stock: &Stock) -> (Vec<u8>, Vec<u8>) {
 
 pub fn draw(trial: &mut Trial, random: &mut Random, stock: &Stock) {
     let (program, strings) = some_draw(random, stock);
+    let samples = length(random, LANES, 6);
+    draw_on(trial, random, &program, &strings, samples);
+}
+
+/// Draws into room for so many samples. Returns the number that engine and reference return, as `draw_signed_on` does.
+pub fn draw_on(
+    trial: &mut Trial,
+    random: &mut Random,
+    program: &[u8],
+    strings: &[u8],
+    samples: usize,
+) -> u32 {
     let mut memory = Memory::new(random);
-    let program = memory.lend("program", &program);
-    let strings = memory.lend("strings", &strings);
-    let samples = memory.room("samples", length(random, LANES, 6));
+    let program = memory.lend("program", program);
+    let strings = memory.lend("strings", strings);
+    let samples = memory.room("samples", samples);
     trial.compare(
         &memory,
         |view| unsafe {
@@ -153,17 +165,29 @@ pub fn draw(trial: &mut Trial, random: &mut Random, stock: &Stock) {
                 samples.length,
             )
         },
-    );
+    )
 }
 
 pub fn draw_signed(trial: &mut Trial, random: &mut Random, stock: &Stock) {
     let (program, strings) = some_draw(random, stock);
+    let samples = length(random, LANES, 6);
+    draw_signed_on(trial, random, &program, &strings, samples);
+}
+
+/// Draws with some sign word.
+pub fn draw_signed_on(
+    trial: &mut Trial,
+    random: &mut Random,
+    program: &[u8],
+    strings: &[u8],
+    samples: usize,
+) -> u32 {
     let sign = some_sign(random);
     let mut memory = Memory::new(random);
     memory.note("sign", sign);
-    let program = memory.lend("program", &program);
-    let strings = memory.lend("strings", &strings);
-    let samples = memory.room("samples", length(random, LANES, 6));
+    let program = memory.lend("program", program);
+    let strings = memory.lend("strings", strings);
+    let samples = memory.room("samples", samples);
     trial.compare(
         &memory,
         |view| unsafe {
@@ -181,5 +205,5 @@ pub fn draw_signed(trial: &mut Trial, random: &mut Random, stock: &Stock) {
                 samples.length,
             )
         },
-    );
+    )
 }

@@ -5,6 +5,7 @@
 #[path = "../../../include/corkhollow.rs"]
 mod corkhollow;
 mod faults;
+mod foreign;
 mod inputs;
 mod lanes;
 mod matrices;
@@ -85,6 +86,7 @@ fn main() {
     });
     numbers::compare();
     wrappers::compare();
+    foreign::compare();
     let stock = Stock::new(&mut Random::new(seed));
     let numbers: Vec<String> = (1..ANSWERS).map(|refusal| refusal.to_string()).collect();
     print_row("operation", "stack", "cases", "done", &numbers);

@@ -21,9 +21,15 @@ fn some_file(random: &mut Random, stock: &Stock) -> (Vec<u8>, Matrix) {
 
 pub fn read(trial: &mut Trial, random: &mut Random, stock: &Stock) {
     let (file, matrix) = some_file(random, stock);
+    let entries = length(random, matrix.entries.len(), 4);
+    read_on(trial, random, &file, entries);
+}
+
+/// Reads a file into room for so many entries. Returns the number that engine and reference return, as each function `.._on` does.
+pub fn read_on(trial: &mut Trial, random: &mut Random, file: &[u8], entries: usize) -> u32 {
     let mut memory = Memory::new(random);
-    let file = memory.lend("file", &file);
-    let entries = memory.room("entries", length(random, matrix.entries.len(), 4));
+    let file = memory.lend("file", file);
+    let entries = memory.room("entries", entries);
     let rows = memory.number("rows");
     let columns = memory.number("columns");
     trial.compare(
@@ -47,7 +53,7 @@ pub fn read(trial: &mut Trial, random: &mut Random, stock: &Stock) {
                 view.pointer(columns),
             )
         },
-    );
+    )
 }
 
 /// What is written: sizes and entries.
@@ -189,9 +195,13 @@ pub fn walk(trial: &mut Trial, random: &mut Random, stock: &Stock) {
         set_spare_bit(random, &mut string, matrix.columns);
     }
     fit(random, &mut string, 6);
+    walk_on(trial, random, &file, &string);
+}
+
+pub fn walk_on(trial: &mut Trial, random: &mut Random, file: &[u8], string: &[u8]) -> u32 {
     let mut memory = Memory::new(random);
-    let file = memory.lend("file", &file);
-    let string = memory.lend("string", &string);
+    let file = memory.lend("file", file);
+    let string = memory.lend("string", string);
     let row = memory.number("row");
     let used = memory.number("used");
     trial.compare(
@@ -210,7 +220,7 @@ pub fn walk(trial: &mut Trial, random: &mut Random, stock: &Stock) {
                 view.pointer(used),
             )
         },
-    );
+    )
 }
 
 pub fn spent(trial: &mut Trial, random: &mut Random, stock: &Stock) {
@@ -218,9 +228,13 @@ pub fn spent(trial: &mut Trial, random: &mut Random, stock: &Stock) {
     // strings for this matrix: some of them hit late, or never
     let mut strings = random::strings(random, &matrix);
     string_faults(random, &mut strings, matrix.columns);
+    spent_on(trial, random, &file, &strings);
+}
+
+pub fn spent_on(trial: &mut Trial, random: &mut Random, file: &[u8], strings: &[u8]) -> u32 {
     let mut memory = Memory::new(random);
-    let file = memory.lend("file", &file);
-    let strings = memory.lend("strings", &strings);
+    let file = memory.lend("file", file);
+    let strings = memory.lend("strings", strings);
     let total = memory.number("total");
     trial.compare(
         &memory,
@@ -234,7 +248,7 @@ pub fn spent(trial: &mut Trial, random: &mut Random, stock: &Stock) {
                 view.pointer(total),
             )
         },
-    );
+    )
 }
 
 pub fn compile(trial: &mut Trial, random: &mut Random, stock: &Stock) {
@@ -245,9 +259,15 @@ pub fn compile(trial: &mut Trial, random: &mut Random, stock: &Stock) {
     } else {
         100
     };
+    let program = length(random, needed, 5);
+    compile_on(trial, random, &file, program);
+}
+
+/// Compiles a file into room for a program of so many bytes.
+pub fn compile_on(trial: &mut Trial, random: &mut Random, file: &[u8], program: usize) -> u32 {
     let mut memory = Memory::new(random);
-    let file = memory.lend("file", &file);
-    let program = memory.room("program", length(random, needed, 5));
+    let file = memory.lend("file", file);
+    let program = memory.room("program", program);
     let written = memory.number("length");
     trial.compare(
         &memory,
@@ -264,5 +284,5 @@ pub fn compile(trial: &mut Trial, random: &mut Random, stock: &Stock) {
                 view.pointer(written),
             )
         },
-    );
+    )
 }

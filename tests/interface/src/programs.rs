@@ -16,8 +16,14 @@ pub fn some_program(random: &mut Random, stock: &Stock) -> Vec<u8> {
 }
 
 pub fn check(trial: &mut Trial, random: &mut Random, stock: &Stock) {
+    let file = some_program(random, stock);
+    check_on(trial, random, &file);
+}
+
+/// Checks a file. Returns the number that engine and reference return, as each function `.._on` does.
+pub fn check_on(trial: &mut Trial, random: &mut Random, file: &[u8]) -> u32 {
     let mut memory = Memory::new(random);
-    let program = memory.lend("program", &some_program(random, stock));
+    let program = memory.lend("program", file);
     let registers = memory.number("registers");
     let inputs = memory.number("inputs");
     let outputs = memory.number("outputs");
@@ -40,7 +46,7 @@ pub fn check(trial: &mut Trial, random: &mut Random, stock: &Stock) {
                 view.pointer(count),
             )
         },
-    );
+    )
 }
 
 /// What a run is lent.
@@ -56,8 +62,8 @@ struct Run {
 }
 
 /// The words that a run is lent.
-#[derive(PartialEq)]
-struct Words {
+#[derive(Default, PartialEq)]
+pub struct Words {
     inputs: Vec<u64>,
     registers: Vec<u64>,
     outputs: Vec<u64>,
@@ -207,8 +213,18 @@ pub fn start(trial: &mut Trial, random: &mut Random, stock: &Stock) {
     let file = some_program(random, stock);
     let words = Words::some(random, &file, 10);
     let budget = some_budget(random, count_of(&file));
+    start_on(trial, random, &file, &words, budget);
+}
+
+pub fn start_on(
+    trial: &mut Trial,
+    random: &mut Random,
+    file: &[u8],
+    words: &Words,
+    budget: u32,
+) -> u32 {
     let mut memory = Memory::new(random);
-    Run::lend(&mut memory, &file, &words).start(trial, &mut memory, budget);
+    Run::lend(&mut memory, file, words).start(trial, &mut memory, budget)
 }
 
 pub fn resume(trial: &mut Trial, random: &mut Random, stock: &Stock) {
@@ -216,8 +232,19 @@ pub fn resume(trial: &mut Trial, random: &mut Random, stock: &Stock) {
     let words = Words::some(random, &file, 10);
     let position = some_position(random, count_of(&file));
     let budget = some_budget(random, count_of(&file));
+    resume_on(trial, random, &file, &words, position, budget);
+}
+
+pub fn resume_on(
+    trial: &mut Trial,
+    random: &mut Random,
+    file: &[u8],
+    words: &Words,
+    position: u32,
+    budget: u32,
+) -> u32 {
     let mut memory = Memory::new(random);
-    Run::lend(&mut memory, &file, &words).resume(trial, &mut memory, position, budget);
+    Run::lend(&mut memory, file, words).resume(trial, &mut memory, position, budget)
 }
 
 /// What a run left: its words, and its numbers.

@@ -3,8 +3,8 @@ use borrow.Author.Needs.{needs}
 use mathlib.Core.Path.{_≡_, sym, _∙_}
 use Prim.Native.Nat.{_+_, _*_}
 use borrow.Author.Tests.{lt-ltb, le-ltb, eq-eqb, ne-eqb, not-true, not-false}
-use Rattle.programs.specs.Header.{headerOf, numbersOf}
-use Rattle.programs.specs.Reading.{afterKind, header-numbers}
+use Rattle.programs.specs.Header.{headerOf, limitsOf, numbersOf}
+use Rattle.programs.specs.Reading.{header-numbers}
 use Rattle.programs.proofs.headers.read_header.Statement.{statement}
 use Rattle.programs.proofs.headers.read_header.Tie as tie
 
@@ -16,11 +16,22 @@ returns-2 : tie.Need-returns-2
 unfolding headerOf
 returns-2 c = rw (le-ltb _ _ (c .before .before .if1 .left), ← (c .before .field .ensures .0), ne-eqb _ _ (c .if2 .taken))
 
+returns-3 : tie.Need-returns-3
+unfolding headerOf
+returns-3 c =
+    let kind = c .before in
+    rw (
+      le-ltb _ _ (kind .before .before .if1 .left),
+      ← (kind .before .field .ensures .0),
+      eq-eqb _ _ (kind .if2 .left),
+      lt-ltb _ _ (c .if3 .taken),
+    )
+
 -- what the fields say
 numbered : (c : tie.After-within) →
-    let file = c .before .before .before .before .before .before .before .before .before .before .args .file .now in
+    let file = c .before .before .before .before .before .before .before .before .before .before .before .args .file .now in
     let fields = c .before in
-    headerOf file ≡ afterKind file (record {
+    headerOf file ≡ limitsOf file (record {
       registers = fields .before .before .before .before .field2 .result;
       inputs = fields .before .before .before .field3 .result;
       outputs = fields .before .before .field4 .result;
@@ -33,37 +44,38 @@ numbered c =
     let o = low .before in
     let i = o .before in
     let r = i .before in
-    let kind = r .before .before in
-    header-numbers _ (kind .before .if1 .left) (sym (kind .field .ensures .0) ∙ r .before .if2 .left) _
+    let room = r .before in
+    let kind = room .before in
+    header-numbers _ (room .if3 .left) (sym (kind .before .field .ensures .0) ∙ kind .if2 .left) _
     (rw (r .field2 .ensures .0, i .field3 .ensures .0, o .field4 .ensures .0, low .field5 .ensures .0, high .field6 .ensures .0))
 
-returns-3 : tie.Need-returns-3
-unfolding afterKind
-returns-3 c = sym (numbered (c .before) ∙ rw (sym (c .before .within .ensures) ∙ not-true _ (c .if3 .taken)))
-
 returns-4 : tie.Need-returns-4
-unfolding afterKind
-returns-4 c =
-    let inside = c .before .before in
-    sym (numbered (inside .before) ∙ rw (
-      sym (inside .before .within .ensures) ∙ not-false _ (inside .if3 .left),
-      ← (c .before .field7 .ensures .0),
-      ne-eqb _ _ (c .if4 .taken),
-    ))
+unfolding limitsOf
+returns-4 c = sym (numbered (c .before) ∙ rw (sym (c .before .within .ensures) ∙ not-true _ (c .if4 .taken)))
 
 returns-5 : tie.Need-returns-5
-unfolding afterKind
+unfolding limitsOf
 returns-5 c =
     let inside = c .before .before in
     sym (numbered (inside .before) ∙ rw (
-      sym (inside .before .within .ensures) ∙ not-false _ (inside .if3 .left),
+      sym (inside .before .within .ensures) ∙ not-false _ (inside .if4 .left),
       ← (c .before .field7 .ensures .0),
-      eq-eqb _ _ (c .if4 .left),
+      ne-eqb _ _ (c .if5 .taken),
+    ))
+
+returns-6 : tie.Need-returns-6
+unfolding limitsOf
+returns-6 c =
+    let inside = c .before .before in
+    sym (numbered (inside .before) ∙ rw (
+      sym (inside .before .within .ensures) ∙ not-false _ (inside .if4 .left),
+      ← (c .before .field7 .ensures .0),
+      eq-eqb _ _ (c .if5 .left),
     ))
 
 pub read-header-spec : {M : Type 1} → statement M
 read-header-spec =
     tie.close
-    (tie.spec returns (λ c κs. search needs) returns-2 (λ c κs. search needs) (λ c κs. search needs) (λ c κs. search needs)
+    (tie.spec returns (λ c κs. search needs) returns-2 returns-3 (λ c κs. search needs) (λ c κs. search needs) (λ c κs. search needs)
     (λ c κs. search needs) (λ c κs. search needs) (λ c. search needs) (λ c. search needs) (λ c. search needs) (λ c κs. search needs)
-    returns-3 (λ c κs. search needs) returns-4 returns-5)
+    returns-4 (λ c κs. search needs) returns-5 returns-6)
