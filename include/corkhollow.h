@@ -18,7 +18,7 @@
  * - A buffer longer than needed is never refused, and its rest is neither read nor written. A file is exactly its length: bytes left over
  *   are a refusal.
  * - A file of 4 bytes or more is tried for its kind before its length: 2 says that it is another file, whole or cut short, and 1 that it
- *   is of the kind expected and cut short. Under 4 bytes there is no kind to try, and it is 1.
+ *   is of the kind expected and shorter than its records say. Under 4 bytes there is no kind to try, and it is 1.
  * - A string of n bits is packed into CORKHOLLOW_WIDTH(n) bytes, bit 0 highest in the first byte. Where n is no multiple of 8, the spare
  *   low bits of the last byte must be 0: clear them in random bytes. README.md has the layout of the files.
  * - It keeps nothing between calls, makes no random bits and always returns.
@@ -52,7 +52,7 @@ enum corkhollow_refusal {
     CORKHOLLOW_OK = 0,
     CORKHOLLOW_SHORT = 1,       /* a file under 4 bytes; a matrix file under 8 bytes or shorter than its length field, a program file under
                                    14, an instruction cut short */
-    CORKHOLLOW_KIND = 2,        /* the first record is not of the kind expected: another file, however much of it is there */
+    CORKHOLLOW_KIND = 2,        /* the first record is not of the kind expected: another file, also one cut short, from 4 bytes on */
     CORKHOLLOW_SIZE = 3,        /* rows, columns, weights, registers, inputs, outputs, instructions or output words outside the limits */
     CORKHOLLOW_LENGTH = 4,      /* a length field that is not what the header requires, or bytes left over */
     CORKHOLLOW_BIT = 5,         /* a spare bit set, an entry neither 0 nor 1, or an entry of a list that is no signed sample */

@@ -1,6 +1,6 @@
 //! 02, order 3, "Foreign file or short file": with four bytes present, the kind of the first record
 //! is tried before shortness. The files that the order speaks of, with the numbers that stand
-//! there; each of a header's checks with the next; and that no other answers change.
+//! there; each of a header's checks with the next; and that no other 1 or 2 of a header changes.
 
 use reference::compiler::{compile, translate};
 use reference::draws::{draw, draw_signed};
@@ -114,8 +114,8 @@ fn record(fields: &[usize], bytes: &[u8]) -> Vec<u8> {
     file
 }
 
-/// Kinds that no file has: the least and the largest, next to a file's, and those of which only the
-/// low byte is a file's (288 is 0x0120, 272 is 0x0110), or only the high one.
+/// Kinds that no file has: the least ones and the largest, next to a file's, a file's with another
+/// high byte (288 is 0x0120, 272 is 0x0110), and a file's with its bytes exchanged.
 const NO_KINDS: [usize; 12] = [
     0, 1, 15, 17, 31, 33, 272, 288, 0x1000, 0x2000, 0x2010, 65_535,
 ];

@@ -6,7 +6,6 @@ use mathlib.Core.Bool.{Bool, true}
 use mathlib.Core.List.{List, [], _∷_, _++_}
 use mathlib.Core.Logic.{_⊎_, inl, inr, ⊎-elim, ⊎-map, _↔_}
 use native.Mathlib.Omega.{arith}
-use borrow.Author.Tests.{lt-ltb, le-ltb, eq-eqb, ne-eqb}
 use lib.ListN.{length, getD, take, length-append}
 use lib.Seq.{length-take-le, take-append-add, drop-at}
 use Rattle.laws.specs.Tests.{lt-or-ge}
@@ -17,8 +16,8 @@ use Rattle.laws.specs.Changes.{Changed, same-iff, changed-then}
 use Rattle.fields.specs.Fields.{fieldOf, field-front}
 use Rattle.fields.specs.Foreign.{Foreign}
 use Rattle.programs.specs.Instructions.{uses, lengthOf, instructionBytes}
-use Rattle.programs.specs.Header.{header-length, header-kind, headerBytes, headerOf, codeBytes, programFile}
-use Rattle.programs.specs.Reading.{length-instruction, header-long}
+use Rattle.programs.specs.Header.{header-length, header-kind, headerBytes, codeBytes, programFile}
+use Rattle.programs.specs.Reading.{length-instruction, header-long, header-few, header-foreign, header-short}
 use Rattle.programs.specs.Inverse.{decode-written, header-written, header-reads}
 use Rattle.programs.specs.Foreign.{Short, headerShortFirst, header-changed, decode-cut}
 use Rattle.programs.specs.declared.description.Program.{Program}
@@ -49,17 +48,16 @@ module _ (file : List ℕ) where
 -- ---- the order, in plain words
 module _ (file : List ℕ) where
   pub check-few : length file < 4 → checkOf file ≡ refused 1
-  unfolding checkOf headerOf
-  check-few h = rw (lt-ltb (length file) 4 h)
+  unfolding checkOf
+  check-few h = rw (← (header-few file h))
 
   pub check-foreign : Foreign header-kind file → checkOf file ≡ refused 2
-  unfolding checkOf headerOf
-  check-foreign f = rw (le-ltb (length file) 4 (f .0), ne-eqb (fieldOf file 2) header-kind (f .1))
+  unfolding checkOf
+  check-foreign f = rw (← (header-foreign file (f .0) (f .1)))
 
   pub check-short : 4 ≤ length file → fieldOf file 2 ≡ header-kind → Short file → checkOf file ≡ refused 1
-  unfolding checkOf headerOf
-  check-short a k s =
-      rw (le-ltb (length file) 4 a, eq-eqb (fieldOf file 2) header-kind k, lt-ltb (length file) header-length s)
+  unfolding checkOf
+  check-short a k s = rw (← (header-short file a k s))
 
 -- ---- an accepted program file is 1 wherever it is cut
 -- a cut in the first of some instructions, or behind it

@@ -5,21 +5,21 @@ use mathlib.Core.Path.{_≡_, refl, sym}
 use mathlib.Core.List.{List}
 use native.Mathlib.Omega.{arith}
 use lib.Dec.{ltb}
-use lib.ListN.{length, take, replicate}
+use lib.ListN.{length, getD, take, replicate}
 use Rattle.laws.specs.Outcome.{Outcome, refused, gives, refuse, mapped, _>>_, _>>=_, bind-is, bind-eq}
 use Rattle.laws.specs.Changes.{Changed, Through, through-refused, through-changed}
 use Rattle.fields.specs.Foreign.{Foreign, foreign-cut}
 use Rattle.files.specs.Matrix.{Matrix, sizes}
 use Rattle.files.specs.Files.{matrixOf, readOf}
 use Rattle.files.specs.Checks.{header-says, matrix-read}
-use Rattle.files.specs.Foreign.{Short as ShortMatrix, matrixShortFirst, matrix-changed, matrix-few, matrix-foreign}
+use Rattle.files.specs.Foreign.{Short as ShortMatrix, matrixShortFirst, matrix-changed, matrix-few, matrix-foreign, matrix-cut}
 use Rattle.programs.specs.Header.{header-kind}
 use Rattle.programs.specs.Inverse.{header-reads}
 use Rattle.programs.specs.Foreign.{Short as ShortProgram}
 use Rattle.programs.specs.declared.description.Program.{Program}
 use Rattle.checker.specs.Checks.{Code, checkOf}
 use Rattle.checker.specs.Checking.{check-says}
-use Rattle.checker.specs.Foreign.{checkShortFirst, check-changed, check-few, check-foreign}
+use Rattle.checker.specs.Foreign.{checkShortFirst, check-changed, check-few, check-foreign, check-cut}
 use Rattle.machine.specs.Runs.{startOf, startOn, resumeOf, resumeOn}
 use Rattle.walk.specs.Walk.{walkOf}
 use Rattle.lanes.specs.Slicing.{lanes, sliceOf}
@@ -68,6 +68,7 @@ module _ {A : Type 0} (strings : List ℕ) (room : ℕ) (read : List ℕ → Out
       Through checkOf (λ file. startOf file words (replicate (p .registers) 0) (replicate (p .outputs) 0) (p .count))
   onWords p words = start-through words (replicate (p .registers) 0) (replicate (p .outputs) 0) (p .count)
 
+  -- the rest of `drawnWith`, with its start of the file as one of the program that was checked
   afterCheck : Code → Outcome A
   afterCheck c = do
     words ← sliceOf (c .program .inputs) strings (c .program .inputs)
@@ -116,7 +117,16 @@ module _ {B : Type 0} {operation : List ℕ → Outcome B} (file : List ℕ) (n 
   matrix-for-program t M e =
       through-refused t (take n file) (check-foreign (take n file) (foreign-cut header-kind file n h (matrix-is-foreign file M e)))
 
--- and under four bytes as short by both
+-- and as short by all that takes its own, wherever it is cut
+module _ {B : Type 0} {operation : List ℕ → Outcome B} (file : List ℕ) (n : ℕ) (h : n < length file) where
+  pub matrix-for-matrix : Through matrixOf operation → (M : Matrix) → matrixOf file ≡ gives M → operation (take n file) ≡ refused 1
+  matrix-for-matrix t M e = through-refused t (take n file) (matrix-cut file M e n h)
+
+  pub program-for-program : Through checkOf operation → (c : Code) → ((k : ℕ) → getD file k 0 < 256) → checkOf file ≡ gives c →
+      operation (take n file) ≡ refused 1
+  program-for-program t c byte e = through-refused t (take n file) (check-cut file c byte e n h)
+
+-- under four bytes a file is told as short by both
 module _ {B : Type 0} {operation : List ℕ → Outcome B} (file : List ℕ) (h : length file < 4) where
   pub few-for-matrix : Through matrixOf operation → operation file ≡ refused 1
   few-for-matrix t = through-refused t file (matrix-few file h)

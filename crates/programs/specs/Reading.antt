@@ -4,7 +4,7 @@ use mathlib.Core.Path.{_≡_, refl, sym, ap, _∙_}
 use mathlib.Core.Bool.{true, false}
 use mathlib.Core.List.{List, [], _∷_}
 use native.Mathlib.Omega.{arith}
-use borrow.Author.Tests.{lt-ltb, le-ltb, ltb-false, le-leb, leb-true, eq-eqb, not-true}
+use borrow.Author.Tests.{lt-ltb, le-ltb, ltb-false, le-leb, leb-true, eq-eqb, ne-eqb, not-true}
 use lib.Dec.{ltb}
 use lib.ListN.{length, take, drop, length-drop}
 use Rattle.laws.specs.Tests.{both, neither}
@@ -118,6 +118,20 @@ module _ (i : Instruction) (at : ℕ) (buf : List ℕ) where
   encode-room long now q h e = rw (encode-gives i at (length buf) h) (ap gives (q ∙ sym (length-instruction i)), e)
 
 -- ---- a header
+-- a file of four bytes or more is tried by its kind, and one under four is too short for that
+module _ (file : List ℕ) where
+  pub header-few : length file < 4 → refused 1 ≡ headerOf file
+  unfolding headerOf
+  header-few h = rw (lt-ltb (length file) 4 h)
+
+  pub header-foreign : 4 ≤ length file → (fieldOf file 2 ≡ header-kind → ⊥) → refused 2 ≡ headerOf file
+  unfolding headerOf
+  header-foreign a k = rw (le-ltb (length file) 4 a, ne-eqb (fieldOf file 2) header-kind k)
+
+  pub header-short : 4 ≤ length file → fieldOf file 2 ≡ header-kind → length file < header-length → refused 1 ≡ headerOf file
+  unfolding headerOf
+  header-short a k h = rw (le-ltb (length file) 4 a, eq-eqb (fieldOf file 2) header-kind k, lt-ltb (length file) header-length h)
+
 -- a file of the kind that has room for a header is tried by what its numbers are
 pub header-numbers : (file : List ℕ) → header-length ≤ length file → fieldOf file 2 ≡ header-kind → (p : Program) → p ≡ numbersOf file →
     headerOf file ≡ limitsOf file p

@@ -1,5 +1,5 @@
-//! 02, order 3: files of the other sort, whole and cut short, files of no kind, and short files of
-//! the right kind.
+//! 02, order 3: files of the other sort, whole and cut short, files of other kinds, and short files
+//! of the right kind.
 
 use super::cases::{check, read};
 use super::damaged::{all_uses_of_matrix, all_uses_of_program, least_program, small_matrix};
@@ -27,7 +27,7 @@ pub fn fixed(put: &mut dyn FnMut(Line)) {
         put(check(&file[..MATRIX_HEADER]));
     }
     of_the_right_kind(put);
-    of_no_kind(put);
+    of_other_kinds(put);
 }
 
 /// A file cut to each length below a program's header, and whole. The whole, and what is next to a
@@ -57,9 +57,10 @@ fn of_the_right_kind(put: &mut dyn FnMut(Line)) {
     }
 }
 
-/// Four bytes alone with kinds of which no byte, the low one (288 is 0x0120, 272 is 0x0110) or the
-/// high one is right; and a matrix of another kind whose length field says more than there is.
-fn of_no_kind(put: &mut dyn FnMut(Line)) {
+/// Four bytes alone with some other kind: 0, the other sort's, the right one with another high byte
+/// (288 is 0x0120, 272 is 0x0110) or with its bytes exchanged, the largest; and a matrix of a
+/// program's kind whose length field says more than there is.
+fn of_other_kinds(put: &mut dyn FnMut(Line)) {
     for kind in [0, 16, 288, 0x2000, 65_535] {
         put(read(&with(&small_matrix(), 9, kind)[..4], 0));
     }

@@ -99,7 +99,8 @@ fn kind(random: &mut Random, file: &mut Vec<u8>) {
     set(file, 2, random.pick(&kinds));
 }
 
-/// 2, or 1 under four bytes: a file of the other sort, or this one with another kind; mostly only the first bytes of it (02, order 3).
+/// 2, or 1 under four bytes: a file of the other sort, or this one with a kind that is mostly another; mostly only the first bytes of it
+/// (02, order 3).
 fn foreign(random: &mut Random, file: &mut Vec<u8>, other_sort: fn(&mut Random) -> Vec<u8>) {
     if random.bit() == 0 {
         *file = other_sort(random);

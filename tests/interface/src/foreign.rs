@@ -49,7 +49,8 @@ const OF_PROGRAM: [(&str, Call); 5] = [
     }),
 ];
 
-/// Kinds that no file has: the least and the largest, and those of which only one byte is a file's (288 is 0x0120, 272 is 0x0110).
+/// Kinds that no file has: the least and the largest, a file's with another high byte (288 is 0x0120, 272 is 0x0110), and a file's with its
+/// bytes exchanged.
 const NO_KINDS: [u16; 6] = [0, 272, 288, 0x1000, 0x2000, 65_535];
 
 /// A file, and the number that it is refused with.

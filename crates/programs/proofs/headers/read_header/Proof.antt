@@ -2,30 +2,22 @@
 use borrow.Author.Needs.{needs}
 use mathlib.Core.Path.{_≡_, sym, _∙_}
 use Prim.Native.Nat.{_+_, _*_}
-use borrow.Author.Tests.{lt-ltb, le-ltb, eq-eqb, ne-eqb, not-true, not-false}
+use borrow.Author.Tests.{eq-eqb, ne-eqb, not-true, not-false}
 use Rattle.programs.specs.Header.{headerOf, limitsOf, numbersOf}
-use Rattle.programs.specs.Reading.{header-numbers}
+use Rattle.programs.specs.Reading.{header-few, header-foreign, header-short, header-numbers}
 use Rattle.programs.proofs.headers.read_header.Statement.{statement}
 use Rattle.programs.proofs.headers.read_header.Tie as tie
 
 returns : tie.Need-returns
-unfolding headerOf
-returns c = rw (lt-ltb _ _ (c .if1 .taken))
+returns c = header-few _ (c .if1 .taken)
 
 returns-2 : tie.Need-returns-2
-unfolding headerOf
-returns-2 c = rw (le-ltb _ _ (c .before .before .if1 .left), ← (c .before .field .ensures .0), ne-eqb _ _ (c .if2 .taken))
+returns-2 c = header-foreign _ (c .before .before .if1 .left) (λ e. c .if2 .taken (c .before .field .ensures .0 ∙ e))
 
 returns-3 : tie.Need-returns-3
-unfolding headerOf
 returns-3 c =
     let kind = c .before in
-    rw (
-      le-ltb _ _ (kind .before .before .if1 .left),
-      ← (kind .before .field .ensures .0),
-      eq-eqb _ _ (kind .if2 .left),
-      lt-ltb _ _ (c .if3 .taken),
-    )
+    header-short _ (kind .before .before .if1 .left) (sym (kind .before .field .ensures .0) ∙ kind .if2 .left) (c .if3 .taken)
 
 -- what the fields say
 numbered : (c : tie.After-within) →
