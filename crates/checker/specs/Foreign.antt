@@ -1,5 +1,5 @@
--- 02, order 3: the check of a program file as 01 has it, and which answers are others now that the kind is tried before shortness.
--- Assumes nothing.
+-- 02, order 3: the check of a program file as 01 has it, which answers are others now that the kind is tried before shortness, and what a
+-- file that is cut comes to. Assumes nothing.
 use Prim.Native.Nat.{ℕ, suc, _+_, _-_, _≤_, _<_}
 use mathlib.Core.Path.{_≡_, ap, _∙_, subst}
 use mathlib.Core.Bool.{Bool, true}

@@ -41,7 +41,7 @@ module _ {P : Type 0} {i j : ℕ} {A : Type 0} {before now : Outcome A} (c : Cha
     elsewhere = λ h. ap (λ (o : Outcome A). o >>= rest) (c .elsewhere h);
   }
 
-  -- and under another name of the condition
+  -- and under a condition that says the same
   pub changed-when : {Q : Type 0} → P ↔ Q → Changed Q i j before now
   changed-when q = record { there = λ h. c .there (q .1 h); elsewhere = λ h. c .elsewhere (λ x. h (q .0 x)) }
 

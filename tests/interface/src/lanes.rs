@@ -120,17 +120,16 @@ pub fn signed_samples(trial: &mut Trial, random: &mut Random, _: &Stock) {
     );
 }
 
-/// A program and strings of as many bits as it has inputs.
-fn some_draw(random: &mut Random, stock: &Stock) -> (Vec<u8>, Vec<u8>) {
+/// A program, strings of as many bits as it has inputs, and the length of a buffer for samples.
+fn some_draw(random: &mut Random, stock: &Stock) -> (Vec<u8>, Vec<u8>, usize) {
     let program = some_program(random, stock);
     let inputs = field_or_0(&program, 6).clamp(1, MOST_INPUTS);
     let strings = some_strings(random, inputs);
-    (program, strings)
+    (program, strings, length(random, LANES, 6))
 }
 
 pub fn draw(trial: &mut Trial, random: &mut Random, stock: &Stock) {
-    let (program, strings) = some_draw(random, stock);
-    let samples = length(random, LANES, 6);
+    let (program, strings, samples) = some_draw(random, stock);
     draw_on(trial, random, &program, &strings, samples);
 }
 
@@ -169,8 +168,7 @@ pub fn draw_on(
 }
 
 pub fn draw_signed(trial: &mut Trial, random: &mut Random, stock: &Stock) {
-    let (program, strings) = some_draw(random, stock);
-    let samples = length(random, LANES, 6);
+    let (program, strings, samples) = some_draw(random, stock);
     draw_signed_on(trial, random, &program, &strings, samples);
 }
 
