@@ -10,8 +10,9 @@
 
 /* Ends the program where a call was refused. The number is the one that the call returned. */
 static inline void must(const char *call, uint32_t refusal) {
-    static const char *const names[] = {"OK",      "SHORT",     "KIND",  "SIZE",       "LENGTH",   "BIT",    "SUM",       "INSTRUCTION",
-                                        "OPERAND", "UNWRITTEN", "UNSET", "WEIGHTLESS", "POSITION", "BUFFER", "MULTIPLIER"};
+    static const char *const names[] = {"OK",      "SHORT",     "KIND",  "SIZE",       "LENGTH",   "BIT",    "SUM",        "INSTRUCTION",
+                                        "OPERAND", "UNWRITTEN", "UNSET", "WEIGHTLESS", "POSITION", "BUFFER", "MULTIPLIER", "TABLE",
+                                        "STEP"};
     if (refusal == CORKHOLLOW_OK) return;
     const char *name = refusal < sizeof names / sizeof *names ? names[refusal] : "unknown";
     fprintf(stderr, "%s: refusal %u, %s\n", call, refusal, name);

@@ -31,10 +31,11 @@
  * - A call takes no memory but its stack, and of that under 12 KiB.
  * - The archive needs `memset` alone from outside, and has no data that can be written. So threads may call at once, also the same
  *   function: a call works on what it is lent and on its own stack. What one call changes is not to be lent to another meanwhile.
- * - Starting, resuming, slicing, reading samples, drawing and combining carry out the same machine instructions at the same addresses
- *   whatever the random bits are: strings, words, registers, outputs, sign, signed samples with their misses. But a spare bit that is set
- *   ends slicing and drawing at once, with its refusal; combining chooses once, after it has looked at all entries of all lists, whether to
- *   refuse them; and the walk, and with it corkhollow_spent, chooses by every bit that it reads.
+ * - Starting, resuming, slicing, reading samples, drawing, combining and looking up carry out the same machine instructions at the same
+ *   addresses whatever the random bits are: strings, words, registers, outputs, sign, signed samples with their misses, r. But a spare bit
+ *   that is set ends slicing and drawing at once, with its refusal; combining chooses once, after it has looked at all entries of all
+ *   lists, whether to refuse them; looking up chooses by r whether it is in range and whether it misses, and no more; and the walk, and
+ *   with it corkhollow_spent, chooses by every bit that it reads.
  */
 #ifndef CORKHOLLOW_H
 #define CORKHOLLOW_H
@@ -53,7 +54,8 @@ enum corkhollow_refusal {
     CORKHOLLOW_SHORT = 1,       /* a file under 4 bytes; a matrix file under 8 bytes or shorter than its length field, a program file under
                                    14, an instruction cut short */
     CORKHOLLOW_KIND = 2,        /* the first record is not of the kind expected: another file, also one cut short, from 4 bytes on */
-    CORKHOLLOW_SIZE = 3,        /* rows, columns, weights, registers, inputs, outputs, instructions or output words outside the limits */
+    CORKHOLLOW_SIZE = 3,        /* rows, columns, weights, registers, inputs, outputs, instructions, output words, numbers of a cumulative
+                                   table, or a number that is looked up, outside the limits */
     CORKHOLLOW_LENGTH = 4,      /* a length field that is not what the header requires, or bytes left over */
     CORKHOLLOW_BIT = 5,         /* a spare bit set, an entry neither 0 nor 1, or an entry of a list that is no signed sample */
     CORKHOLLOW_SUM = 6,         /* the rows of the matrix add up to more than 2^columns */
@@ -64,7 +66,9 @@ enum corkhollow_refusal {
     CORKHOLLOW_WEIGHTLESS = 11, /* all weights are 0 */
     CORKHOLLOW_POSITION = 12,   /* a resume position above the program's instruction count */
     CORKHOLLOW_BUFFER = 13,     /* a lent buffer is too short for its own input or its own result */
-    CORKHOLLOW_MULTIPLIER = 14  /* a multiplier outside 1 to 1,000 */
+    CORKHOLLOW_MULTIPLIER = 14, /* a multiplier outside 1 to 1,000 */
+    CORKHOLLOW_TABLE = 15,      /* a table that is not cumulative: its first number is not 0, one falls, or the last is above 2^columns */
+    CORKHOLLOW_STEP = 16        /* a cumulative table with a difference of 2^columns, which no row can hold */
 };
 
 /* Limits. Rows, columns, weights, registers, inputs, outputs and multipliers begin at 1, instructions at 0. */
@@ -76,8 +80,9 @@ enum corkhollow_refusal {
 #define CORKHOLLOW_OUTPUTS 8
 #define CORKHOLLOW_INSTRUCTIONS 131072
 #define CORKHOLLOW_MOST_MULTIPLIER 1000
+#define CORKHOLLOW_TABLE_COLUMNS 63 /* of a cumulative table, and of a matrix that has one */
 
-/* What stands for a miss: as a sample or a row, as a signed sample, and as a result of combining. */
+/* What stands for a miss: as a sample or a row, drawn or looked up, as a signed sample, and as a result of combining. */
 #define CORKHOLLOW_MISS 255
 #define CORKHOLLOW_SIGNED_MISS 32767
 #define CORKHOLLOW_COMBINED_MISS 2147483647
@@ -86,11 +91,12 @@ enum corkhollow_refusal {
 #define CORKHOLLOW_WIDTH(columns) (((size_t)(columns) + 7) / 8)
 #define CORKHOLLOW_MATRIX_LENGTH(rows, columns) (8 + (size_t)(rows) * CORKHOLLOW_WIDTH(columns))
 
-/* Buffers of these lengths are never too short: entries, a matrix file, a program file, the 64 strings of a batch. */
+/* Buffers of these lengths are never too short: entries, a matrix file, a program file, the 64 strings of a batch, a cumulative table. */
 #define CORKHOLLOW_MOST_ENTRIES ((size_t)CORKHOLLOW_ROWS * CORKHOLLOW_COLUMNS)
 #define CORKHOLLOW_MOST_MATRIX_BYTES CORKHOLLOW_MATRIX_LENGTH(CORKHOLLOW_ROWS, CORKHOLLOW_COLUMNS)
 #define CORKHOLLOW_MOST_PROGRAM_BYTES (14 + 10 * (size_t)CORKHOLLOW_INSTRUCTIONS)
 #define CORKHOLLOW_MOST_STRING_BYTES (CORKHOLLOW_LANES * CORKHOLLOW_WIDTH(CORKHOLLOW_COLUMNS))
+#define CORKHOLLOW_MOST_TABLE_NUMBERS ((size_t)CORKHOLLOW_ROWS + 1)
 
 /* ---- matrix files ---- */
 
@@ -251,6 +257,45 @@ uint32_t corkhollow_combine(const int16_t *x1, size_t x1_length,
                             const int16_t *x4, size_t x4_length,
                             uint32_t first, uint32_t second,
                             int32_t *results, size_t results_length);
+
+/* ---- cumulative tables ---- */
+
+/*
+ * Imports a cumulative table, of 2 to 129 numbers for 1 to 63 columns: writes the matrix file of which row v is number v + 1 less number v,
+ * and tells its length. The first number is 0, none is below the one before it, and the last is at most 2^columns. What is left to
+ * 2^columns is what misses.
+ * Refusals, in the order tried: 3 for `table_length` or the columns; 15 for a first number that is not 0, one below the one before it, or a
+ * last above 2^columns; 16 for a difference of 2^columns; 13 for `file`.
+ */
+uint32_t corkhollow_import(const uint64_t *table, size_t table_length,
+                           size_t columns,
+                           uint8_t *file, size_t file_length,
+                           size_t *length);
+
+/*
+ * Exports the cumulative table of a matrix file of at most 63 columns: at the front of `table` one number more than it has rows, of which
+ * number v is the sum of the rows before v, and tells how many they are, and the columns. Imported with these columns it is the same file.
+ * Refusals, in the order tried: 1 under 4 bytes, 2, 1, 3, 4, 5, 6 for the file; 3 for columns above 63; 13 for `table`.
+ */
+uint32_t corkhollow_export(const uint8_t *file, size_t file_length,
+                           uint64_t *table, size_t table_length,
+                           size_t *numbers, size_t *columns);
+
+/*
+ * Looks r up in a cumulative table: the sample s of which number s is below r and number s + 1 is not, or CORKHOLLOW_MISS where r is above
+ * the last. Over all r each sample comes as often as over all strings of the program that the imported table compiles to, but not from the
+ * same bits.
+ *
+ * r must be uniform over 1 to 2^columns: take the number of `columns` random bits and add 1. Numbers from 0 to 2^columns - 1 are off by
+ * one: 0 is refused, and 2^columns never comes, so that the last sample, or the miss, has one share less than the table says. How long it
+ * takes depends on r only in whether r is in range and whether it misses: r is compared with every number, and nothing is chosen by what
+ * comes of it. The table, which is no secret, is checked anew on every call.
+ * Refusals, in the order tried: 3 for `table_length`, the columns, or r outside 1 to 2^columns; 15 and 16 as for corkhollow_import.
+ */
+uint32_t corkhollow_lookup(const uint64_t *table, size_t table_length,
+                           size_t columns,
+                           uint64_t r,
+                           size_t *sample);
 
 #ifdef __cplusplus
 }

@@ -17,6 +17,8 @@ pub const INPUTS: usize = 128;
 pub const OUTPUTS: usize = 8;
 pub const INSTRUCTIONS: usize = 131_072;
 pub const MOST_MULTIPLIER: u32 = 1_000;
+/// The most columns of a cumulative table, and of a matrix that has one.
+pub const TABLE_COLUMNS: usize = 63;
 
 /// A miss, as a sample.
 pub const MISS: u8 = 255;
@@ -25,11 +27,12 @@ pub const SIGNED_MISS: i16 = 32_767;
 /// A miss, as a result of combining.
 pub const COMBINED_MISS: i32 = 2_147_483_647;
 
-/// Buffers of these lengths are never too short: entries, a matrix file, a program file, the 64 strings of a batch.
+/// Buffers of these lengths are never too short: entries, a matrix file, a program file, the 64 strings of a batch, a cumulative table.
 pub const MOST_ENTRIES: usize = ROWS * COLUMNS;
 pub const MOST_MATRIX_BYTES: usize = matrix_length(ROWS, COLUMNS);
 pub const MOST_PROGRAM_BYTES: usize = 14 + 10 * INSTRUCTIONS;
 pub const MOST_STRING_BYTES: usize = LANES * width(COLUMNS);
+pub const MOST_TABLE_NUMBERS: usize = ROWS + 1;
 
 /// The bytes of one packed string or row.
 pub const fn width(columns: usize) -> usize {
@@ -180,6 +183,29 @@ pub mod raw {
             results: *mut i32,
             results_length: usize,
         ) -> u32;
+        pub fn corkhollow_import(
+            table: *const u64,
+            table_length: usize,
+            columns: usize,
+            file: *mut u8,
+            file_length: usize,
+            length: *mut usize,
+        ) -> u32;
+        pub fn corkhollow_export(
+            file: *const u8,
+            file_length: usize,
+            table: *mut u64,
+            table_length: usize,
+            numbers: *mut usize,
+            columns: *mut usize,
+        ) -> u32;
+        pub fn corkhollow_lookup(
+            table: *const u64,
+            table_length: usize,
+            columns: usize,
+            r: u64,
+            sample: *mut usize,
+        ) -> u32;
     }
 }
 
@@ -204,6 +230,8 @@ impl fmt::Display for Refusal {
             12 => "a resume position above the count",
             13 => "a lent buffer is too short",
             14 => "a multiplier outside 1 to 1,000",
+            15 => "a table that is not cumulative: its first number is not 0, one falls, or the last is above 2^columns",
+            16 => "a cumulative table with a difference of 2^columns, which no row can hold",
             _ => "no refusal of the engine",
         };
         write!(f, "refusal {}: {why}", self.0)
@@ -561,4 +589,49 @@ pub fn combine(
         )
     };
     settle(returned, ())
+}
+
+/// Imports a cumulative table: writes the matrix file of its differences, and tells its length.
+pub fn import(table: &[u64], columns: usize, file: &mut [u8]) -> Result<usize, Refusal> {
+    let mut length = 0;
+    // SAFETY: as in `read`.
+    let returned = unsafe {
+        raw::corkhollow_import(
+            table.as_ptr(),
+            table.len(),
+            columns,
+            file.as_mut_ptr(),
+            file.len(),
+            &mut length,
+        )
+    };
+    settle(returned, length)
+}
+
+/// Exports the cumulative table of a matrix file: how many numbers are at the front of `table`, and the columns.
+pub fn export(file: &[u8], table: &mut [u64]) -> Result<(usize, usize), Refusal> {
+    let (mut numbers, mut columns) = (0, 0);
+    // SAFETY: as in `read`.
+    let returned = unsafe {
+        raw::corkhollow_export(
+            file.as_ptr(),
+            file.len(),
+            table.as_mut_ptr(),
+            table.len(),
+            &mut numbers,
+            &mut columns,
+        )
+    };
+    settle(returned, (numbers, columns))
+}
+
+/// Looks a number up in a cumulative table: the sample, or none for a miss. r must be uniform over 1 to 2^columns: the number of `columns`
+/// random bits, and 1 more.
+pub fn lookup(table: &[u64], columns: usize, r: u64) -> Result<Option<usize>, Refusal> {
+    let mut sample = 0;
+    // SAFETY: as in `read`.
+    let returned =
+        unsafe { raw::corkhollow_lookup(table.as_ptr(), table.len(), columns, r, &mut sample) };
+    let sample = (sample != usize::from(MISS)).then_some(sample);
+    settle(returned, sample)
 }

@@ -9,7 +9,8 @@ use crate::lanes::MISS;
 use crate::machine::Run;
 use crate::refusal::Answer;
 use crate::{
-    compiler, draws, lanes, machine, matrix, program, walk as walks, weights as shares, wide,
+    compiler, cumulative, draws, lanes, machine, matrix, program, walk as walks, weights as shares,
+    wide,
 };
 
 /// Returned where an operation was carried out.
@@ -204,4 +205,26 @@ pub fn combine(
 ) -> u32 {
     let answer = wide::combine(x1, x2, x3, x4, first, second, results.len());
     settle(answer, |laid| lay(&laid, results))
+}
+
+/// Importing a cumulative table.
+pub fn import(table: &[u64], columns: usize, file: &mut [u8], length: &mut usize) -> u32 {
+    let answer = cumulative::import(table, columns, file.len());
+    settle_file(answer, file, length)
+}
+
+/// Exporting a matrix file to a cumulative table.
+pub fn export(file: &[u8], table: &mut [u64], numbers: &mut usize, columns: &mut usize) -> u32 {
+    settle(cumulative::export(file, table.len()), |exported| {
+        lay(&exported.table, table);
+        *numbers = exported.table.len();
+        *columns = exported.columns;
+    })
+}
+
+/// Looking a number up in a cumulative table; sample 255 is a miss.
+pub fn lookup(table: &[u64], columns: usize, r: u64, sample: &mut usize) -> u32 {
+    settle(cumulative::lookup(table, columns, r), |found| {
+        *sample = found.unwrap_or(usize::from(MISS));
+    })
 }

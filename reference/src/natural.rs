@@ -85,6 +85,11 @@ impl Natural {
         }
     }
 
+    /// The number itself, where it has at most 64 bits.
+    pub fn word(&self) -> Option<u64> {
+        (self.limbs.len() <= 1).then(|| self.limb(0))
+    }
+
     /// Whether the number is 0.
     pub fn is_zero(&self) -> bool {
         self.limbs.is_empty()
@@ -253,6 +258,7 @@ mod tests {
             assert_eq!(x.cmp(&y), a.cmp(&b));
             assert_eq!(x.width(), (128 - a.leading_zeros()) as usize);
             assert_eq!(Natural::from_bits(&x.bits(128)), x);
+            assert_eq!(x.word(), u64::try_from(a).ok());
             if let Some(sum) = a.checked_add(b) {
                 assert_eq!(x.plus(&y), natural(sum));
             }

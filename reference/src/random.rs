@@ -1,6 +1,7 @@
 //! A generator with a fixed seed, and the inputs that are made with it: matrices, strings, lists of
-//! signed samples, programs, words.
+//! signed samples, cumulative tables, programs, words.
 
+use crate::cumulative::{table_of, LEAST_NUMBERS, MOST_NUMBERS, MOST_TABLE_COLUMNS};
 use crate::damage::NO_SAMPLES;
 use crate::lanes::{LANES, SIGNED_MISS};
 use crate::matrix::{Matrix, MOST_COLUMNS, MOST_ROWS};
@@ -255,6 +256,65 @@ pub fn no_sample(random: &mut Random) -> i16 {
     let far = random.between(MOST_SAMPLE as usize + 1, SIGNED_MISS as usize - 1) as i16;
     let some = random.pick(&NO_SAMPLES);
     random.pick(&[some, far, -far])
+}
+
+/// How many numbers a cumulative table has, and its columns: few, next to a limit, or any.
+pub fn table_sizes(random: &mut Random) -> (usize, usize) {
+    let any = random.between(LEAST_NUMBERS, MOST_NUMBERS);
+    let few = random.between(LEAST_NUMBERS, 9);
+    let numbers = random.pick(&[few, few, few, LEAST_NUMBERS, any, MOST_NUMBERS]);
+    let columns = random.between(1, MOST_TABLE_COLUMNS);
+    let most = MOST_TABLE_COLUMNS;
+    let columns = random.pick(&[columns, columns, columns, 1, 2, 31, 32, 33, most - 1, most]);
+    (numbers, columns)
+}
+
+/// A cumulative table of these sizes that is imported: that of an accepted matrix.
+pub fn table(random: &mut Random, numbers: usize, columns: usize) -> Vec<u64> {
+    table_of(&matrix(random, numbers - 1, columns))
+}
+
+/// A number to look up, from 1 to 2^n: any, one of the table's numbers or the next, or at a limit.
+pub fn within(random: &mut Random, table: &[u64], columns: usize) -> u64 {
+    let all = 1 << columns;
+    let any = random.word() & (all - 1);
+    let (edge, small) = (random.pick(table), random.below(9) as u64);
+    let wanted = random.pick(&[any, any, edge, edge, edge, small, all - 1]);
+    let next = wanted.saturating_add(u64::from(random.bit()));
+    next.clamp(1, all)
+}
+
+/// A number that can not be looked up: 0, above 2^n by one or by any amount, or with low bits that
+/// are within.
+pub fn without(random: &mut Random, columns: usize) -> u64 {
+    let all = 1 << columns;
+    let any = random.word() | 1 << 63;
+    let far = any.max(all + 1);
+    let low = (all << 1 | 1).max(all + 1);
+    random.pick(&[0, 0, all + 1, all + 1, low, far, u64::MAX])
+}
+
+/// Breaks a rule on the numbers of a table: the first is not 0, one falls, the last is above 2^n,
+/// or a difference is 2^n. Columns outside their limits count as some within.
+pub fn table_fault(random: &mut Random, table: &mut [u64], columns: usize) {
+    let all = 1 << (columns % 64).clamp(1, MOST_TABLE_COLUMNS);
+    let last = table.len() - 1;
+    let (any, step) = (random.below(last + 1), random.between(last.min(1), last));
+    match random.below(5) {
+        0 => table[0] = random.pick(&[1, table[last], all, 1 << 32, 1 << 63, u64::MAX]),
+        1 => {
+            let before = table[any.saturating_sub(1)];
+            table[any] = before.wrapping_sub(random.pick(&[1, 1, 1 << 32, 1 << 63]));
+        }
+        2 => {
+            let more = random.below(1 << 16) as u64;
+            table[last] = random.pick(&[all + 1, all + more, u64::MAX, u64::MAX - more]);
+        }
+        _ => {
+            table[..step].fill(0);
+            table[step..].fill(all);
+        }
+    }
 }
 
 /// An accepted program with `body` instructions and as many more as set the outputs that are left.

@@ -31,6 +31,10 @@ pub const POSITION: u32 = 12;
 pub const BUFFER: u32 = 13;
 /// A multiplier outside its range.
 pub const MULTIPLIER: u32 = 14;
+/// A table that is not cumulative: a first number not 0, a fall, or a last above 2^n.
+pub const TABLE: u32 = 15;
+/// A difference of 2^n in a cumulative table, which no row can hold.
+pub const STEP: u32 = 16;
 
 /// One check: refuses with `number` where `fault` holds.
 pub fn refuse(number: u32, fault: bool) -> Answer<()> {

@@ -4,6 +4,7 @@
 //! down and the upper one up, and a row is given only where both bounds have the same whole part,
 //! so each row is exact.
 
+use crate::cumulative::{sums, MOST_TABLE_COLUMNS};
 use crate::matrix::Matrix;
 use crate::natural::Natural;
 
@@ -171,4 +172,14 @@ pub fn document_004() -> Matrix {
         .map(|pair| pair[0].minus(&pair[1]))
         .collect();
     Matrix::from_values(COLUMNS, &rows)
+}
+
+/// Source document 004, table 5, as a cumulative table of 63 bits (02, order 4): of each sum of
+/// rows the first 63 of its 80 bits after the point. It has 12 numbers, from 0 to 2^63.
+pub fn document_004_cut() -> Vec<u64> {
+    let whole = document_004();
+    let cut = |sum: Natural| sum.shifted_down(whole.columns - MOST_TABLE_COLUMNS);
+    let numbers = sums(&whole).into_iter().map(cut);
+    let numbers = numbers.map(|number| number.word().expect("at most 2^63"));
+    numbers.collect()
 }

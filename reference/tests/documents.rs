@@ -1,11 +1,12 @@
 //! The tables of the source documents, and what the documents say of them.
 
 use reference::compiler::translate;
+use reference::cumulative::{export, import, lookup, sums};
 use reference::draws::draw_signed;
-use reference::matrix::{check, Matrix};
+use reference::matrix::{check, decode, Matrix};
 use reference::natural::Natural;
 use reference::random::{self, Random};
-use reference::tables::{document_001, document_002, document_004};
+use reference::tables::{document_001, document_002, document_004, document_004_cut};
 use reference::vectors::line::Hash;
 use reference::walk::{place_after, spent, used_by_all, walk_bits, Place};
 use reference::wide::{combine, combined_misses, result_counts};
@@ -192,6 +193,67 @@ fn table_of_004() {
     }
     for bit in [0, 1] {
         assert!(walk_bits(&matrix, &[bit; 80]).row.is_some());
+    }
+}
+
+/// Table 5 cut to 63 bits: 2^80 less the document's numbers, over 2^17 and rounded down, worked out
+/// by other means.
+const TABLE_004: [u64; 12] = [
+    0,
+    5_260_535_921_817_056_149,
+    8_451_212_244_918_761_417,
+    9_163_148_363_874_248_151,
+    9_221_587_639_219_013_128,
+    9_223_352_352_423_521_441,
+    9_223_371_956_616_401_314,
+    9_223_372_036_734_256_850,
+    9_223_372_036_854_709_174,
+    9_223_372_036_854_775_794,
+    9_223_372_036_854_775_807,
+    9_223_372_036_854_775_808,
+];
+
+/// The table is imported and exported again, no r misses, and each row is the document's over 2^17,
+/// give or take less than one.
+#[test]
+fn cumulative_table_of_004() {
+    let table = document_004_cut();
+    assert_eq!(table, TABLE_004);
+    let (whole, file) = (document_004(), import(&table, 63, usize::MAX).unwrap());
+    assert_eq!(check(&file), Ok((11, 63)));
+    assert_eq!(export(&file, 12).unwrap().table, table);
+    assert_eq!(export(&whole.encode(), 12), Err(3));
+    for (v, pair) in table.windows(2).enumerate() {
+        let (row, exact) = (Natural::from(pair[1] - pair[0]), whole.value(v));
+        let (scaled, unit) = (row.shifted_up(17), Natural::power_of_two(17));
+        assert!(exact < scaled.plus(&unit) && scaled < exact.plus(&unit));
+        for r in [pair[0] + 1, pair[1]] {
+            assert_eq!(lookup(&table, 63, r), Ok(Some(v)));
+        }
+    }
+    let last = sums(&whole).pop();
+    assert_eq!(last, Some(Natural::power_of_two(80)));
+}
+
+/// 1,000 random r, and as many strings of the same matrix: each sample comes as often as its row
+/// says, give or take six times the deviation.
+#[test]
+fn samples_of_the_cumulative_table_of_004() {
+    let mut random = Random::new(5);
+    let rows = |v: usize| (TABLE_004[v + 1] - TABLE_004[v]) as f64 / (1u64 << 63) as f64;
+    let matrix = decode(&import(&TABLE_004, 63, 96).unwrap()).unwrap();
+    let (mut by_lookup, mut by_walk) = ([0; 11], [0; 11]);
+    for _ in 0..1_000 {
+        let r = 1 + (random.word() >> 1);
+        by_lookup[lookup(&TABLE_004, 63, r).unwrap().unwrap()] += 1;
+        by_walk[walk_bits(&matrix, &random.bits(63)).row.unwrap()] += 1;
+    }
+    for (v, often) in by_lookup.into_iter().chain(by_walk).enumerate() {
+        let (mean, often) = (1_000.0 * rows(v % 11), f64::from(often));
+        assert!(
+            (often - mean).abs() <= 6.0 * mean.sqrt() + 1.0,
+            "{v}: {often}"
+        );
     }
 }
 

@@ -2,6 +2,7 @@
 //! checks.
 
 use reference::compiler::{compile, translate};
+use reference::cumulative::{export, import, lookup};
 use reference::draws::{draw, draw_signed};
 use reference::extremes::with_program_length;
 use reference::lanes::{samples, signed_samples, slice};
@@ -585,4 +586,182 @@ fn combine_tries_multipliers_then_lengths_then_entries() {
         assert_eq!(combine(&[], &[], &[], &[], 3, outside, 0), Err(14));
     }
     assert_eq!(combine(&[], &[], &[], &[], 3, 11, 0), Err(13));
+}
+
+/// 2^63.
+const TOP: u64 = 1 << 63;
+
+#[test]
+fn tables_have_2_to_129_numbers() {
+    for numbers in [2, 3, 128, 129] {
+        let file = import(&vec![0; numbers], 63, usize::MAX).unwrap();
+        assert_eq!(check(&file), Ok((numbers - 1, 63)));
+        assert_eq!(lookup(&vec![0; numbers], 63, 1), Ok(None));
+        assert_eq!(export(&file, numbers).unwrap().table, vec![0; numbers]);
+    }
+    for numbers in [0, 1, 130, 131, 258, 65_538] {
+        assert_eq!(import(&vec![0; numbers], 63, usize::MAX), Err(3));
+        assert_eq!(lookup(&vec![0; numbers], 63, 1), Err(3));
+    }
+}
+
+#[test]
+fn tables_have_1_to_63_columns() {
+    for columns in 1..=63 {
+        let file = import(&[0, 1, 1], columns, usize::MAX).unwrap();
+        assert_eq!(check(&file), Ok((2, columns)));
+        assert_eq!(export(&file, 3).unwrap().columns, columns);
+        assert_eq!(lookup(&[0, 1, 1], columns, 1), Ok(Some(0)));
+    }
+    for columns in [0, 64, 65, 127, 128, 129, 258, 65_538] {
+        assert_eq!(import(&[0, 1, 1], columns, usize::MAX), Err(3));
+        assert_eq!(lookup(&[0, 1, 1], columns, 1), Err(3));
+    }
+    for columns in [1 << 32, (1 << 32) + 1, (1 << 63) + 1, usize::MAX] {
+        assert_eq!(import(&[0, 1, 1], columns, usize::MAX), Err(3));
+        assert_eq!(lookup(&[0, 1, 1], columns, 1), Err(3));
+    }
+    for columns in 64..=128 {
+        let file = file_of(&[&"0".repeat(columns)]);
+        assert_eq!(export(&file, 2), Err(3));
+        assert_eq!(export(&file, 0), Err(3));
+    }
+}
+
+/// From 1 to 2^n, at every n, where the last number is 2^n - 1: 2^n alone misses.
+#[test]
+fn lookup_takes_1_to_two_to_the_n() {
+    for columns in 1..=63 {
+        let all = 1 << columns;
+        let table = [0, 0, all - 1, all - 1];
+        assert_eq!(lookup(&table, columns, 1), Ok(Some(1)));
+        assert_eq!(lookup(&table, columns, all - 1), Ok(Some(1)));
+        assert_eq!(lookup(&table, columns, all), Ok(None));
+        for r in [0, all + 1, u64::MAX] {
+            assert_eq!(lookup(&table, columns, r), Err(3));
+        }
+    }
+    for r in [1 << 32, (1 << 32) + 1, TOP, TOP + 1] {
+        assert_eq!(lookup(&[0, 1, 1], 31, r), Err(3));
+    }
+}
+
+/// At every n and every place of four numbers: the rules of 15, each by the least amount and by the
+/// largest.
+#[test]
+fn tables_begin_at_0_do_not_fall_and_end_at_two_to_the_n() {
+    for columns in 1..=63 {
+        let all = 1 << columns;
+        let refused = |table: &[u64]| {
+            assert_eq!(import(table, columns, usize::MAX), Err(15), "{table:?}");
+            assert_eq!(lookup(table, columns, 1), Err(15), "{table:?}");
+        };
+        for first in [1, all, TOP, u64::MAX] {
+            refused(&[first; 4]);
+            refused(&[first, 0, 0, 0]);
+        }
+        for last in [all + 1, TOP + 1, u64::MAX] {
+            refused(&[0, 0, 0, last]);
+            refused(&[0, last, last, last]);
+        }
+        for (from, to) in [
+            (1, 0),
+            (all, all - 1),
+            (all, 0),
+            (u64::MAX, 0),
+            (TOP, all - 1),
+        ] {
+            for table in [[0, from, to, all], [0, 0, from, to], [from, to, to, all]] {
+                refused(&table);
+            }
+        }
+        assert!(import(&[0, 1, 1, all], columns, usize::MAX).is_ok());
+        assert!(import(&[0, 0, all - 1, all], columns, usize::MAX).is_ok());
+    }
+}
+
+/// A difference of 2^n at every place, at every n; 2^n - 1 and then 1 is none.
+#[test]
+fn no_row_holds_two_to_the_n() {
+    for columns in 1..=63 {
+        let all = 1 << columns;
+        for numbers in [2, 3, 5, 129] {
+            for place in [1, numbers / 2, numbers - 1] {
+                let mut table = vec![0; numbers];
+                table[place..].fill(all);
+                assert_eq!(import(&table, columns, usize::MAX), Err(16));
+                assert_eq!(lookup(&table, columns, 1), Err(16));
+                table[place] -= 1;
+                let imported = import(&table, columns, usize::MAX);
+                assert_eq!(check(&imported.unwrap()), Ok((numbers - 1, columns)));
+            }
+        }
+    }
+}
+
+#[test]
+fn import_tries_sizes_numbers_rows_and_room() {
+    for table in [&[1, 0][..], &[0, 3, 2], &[0, 5]] {
+        for columns in [0, 64, usize::MAX] {
+            assert_eq!(import(table, columns, 0), Err(3));
+        }
+        assert_eq!(import(table, 2, 0), Err(15));
+    }
+    assert_eq!(import(&[1], 2, 0), Err(3));
+    assert_eq!(import(&[1; 130], 2, 0), Err(3));
+    // A difference of 2^n, with a number that is not cumulative before it, after it, or with it.
+    for table in [&[0, 1, 0, 4][..], &[0, 4, 3], &[0, 4, 5], &[1, 5], &[4, 8]] {
+        assert_eq!(import(table, 2, 0), Err(15));
+        assert_eq!(import(table, 2, usize::MAX), Err(15));
+    }
+    for file_lent in [0, 8, 9, usize::MAX] {
+        assert_eq!(import(&[0, 4], 2, file_lent), Err(16));
+    }
+    assert_eq!(import(&[0, 4], 0, 0), Err(3));
+    for (numbers, columns, length) in [(2, 1, 9), (4, 8, 11), (4, 9, 14), (129, 63, 1_032)] {
+        let table = vec![0; numbers];
+        assert_eq!(import(&table, columns, length).unwrap().len(), length);
+        assert_eq!(import(&table, columns, length - 1), Err(13));
+        assert_eq!(import(&table, columns, 0), Err(13));
+    }
+}
+
+#[test]
+fn lookup_tries_sizes_and_the_number_before_the_table() {
+    for table in [&[1, 0][..], &[0, 3, 2], &[0, 5], &[0, 4], &[0, 1, 0, 4]] {
+        for (columns, r) in [(0, 1), (64, 1), (2, 0), (2, 5), (usize::MAX, 1)] {
+            assert_eq!(lookup(table, columns, r), Err(3));
+        }
+        let number = if table == [0, 4] { 16 } else { 15 };
+        for r in 1..=4 {
+            assert_eq!(lookup(table, 2, r), Err(number));
+        }
+    }
+}
+
+/// The matrix's own checks, then 3 for n above 63, then 13.
+#[test]
+fn export_tries_the_matrix_then_columns_then_room() {
+    let zeros = [0; 9];
+    assert_eq!(export(&raw(17, 32, 1, 65, &zeros)[..3], 0), Err(1));
+    assert_eq!(export(&raw(17, 16, 1, 65, &zeros), 0), Err(2));
+    assert_eq!(export(&raw(17, 32, 1, 65, &zeros[1..]), 0), Err(1));
+    assert_eq!(export(&raw(17, 32, 1, 129, &zeros), 0), Err(3));
+    assert_eq!(export(&raw(16, 32, 1, 65, &zeros), 0), Err(4));
+    let spare = [0, 0, 0, 0, 0, 0, 0, 0, 1];
+    assert_eq!(export(&raw(17, 32, 1, 65, &spare), 0), Err(5));
+    let half = format!("1{}", "0".repeat(64));
+    assert_eq!(export(&file_of(&[&half, &half, &half]), 0), Err(6));
+    assert_eq!(export(&file_of(&[&half, &half]), 0), Err(3));
+    assert_eq!(export(&file_of(&[&half, &half]), 3), Err(3));
+    // The same of one with a table, where the room is the last to be tried.
+    assert_eq!(export(&raw(10, 32, 2, 2, &[0xc0, 0xc1]), 0), Err(5));
+    assert_eq!(export(&raw(10, 32, 2, 2, &[0xc0, 0xc0]), 0), Err(6));
+    let file = file_of(&["11", "01"]);
+    for table_lent in [0, 1, 2] {
+        assert_eq!(export(&file, table_lent), Err(13));
+    }
+    for table_lent in [3, 4, usize::MAX] {
+        assert_eq!(export(&file, table_lent).unwrap().table, [0, 3, 4]);
+    }
 }

@@ -3,6 +3,7 @@
 //! there; each of a header's checks with the next; and that no other 1 or 2 of a header changes.
 
 use reference::compiler::{compile, translate};
+use reference::cumulative::export;
 use reference::draws::{draw, draw_signed};
 use reference::listing::lister;
 use reference::machine::{resume, start};
@@ -41,6 +42,7 @@ fn matrix_is_refused(file: &[u8], number: u32) {
     assert_eq!(walk(file, &[]), Err(number));
     assert_eq!(spent(file, &[]), Err(number));
     assert_eq!(compile(file, 0), Err(number));
+    assert_eq!(export(file, 0), Err(number));
     assert_eq!(lister(file), format!("refused {number}\n"));
 }
 

@@ -2,6 +2,7 @@
 //! all sizes.
 
 use reference::compiler::{compile, translate};
+use reference::cumulative::{export, import, lookup, table_of};
 use reference::draws::{draw, draw_signed};
 use reference::extremes::longest_program;
 use reference::lanes::{drawn, samples, signed_samples, slice};
@@ -358,6 +359,187 @@ fn drawn_list(random: &mut Random) -> Vec<i16> {
     draw_signed(&program, &strings, random.word(), 64).unwrap()
 }
 
+/// 02, order 4: whether a list of numbers is a table, by the words there, and where not, the
+/// number.
+fn table_refusal(table: &[u64], columns: usize) -> Option<u32> {
+    let all = 1u64 << columns;
+    let falls = (1..table.len()).any(|v| table[v] < table[v - 1]);
+    let last = table[table.len() - 1];
+    if table[0] != 0 || falls || last > all {
+        return Some(15);
+    }
+    let whole = (1..table.len()).any(|v| table[v] == all && table[v - 1] == 0);
+    whole.then_some(16)
+}
+
+/// The samples s with T[s] < r and r ≤ T[s + 1], of all that there are.
+fn samples_between(table: &[u64], r: u64) -> Vec<usize> {
+    let between = |&s: &usize| table[s] < r && r <= table[s + 1];
+    (0..table.len() - 1).filter(between).collect()
+}
+
+/// 02, order 4, on one table, over all r and all strings: what is looked up is the only sample
+/// between whose numbers r lies, each comes from as many r as the compiled program has strings for
+/// it, and as many r miss as strings do.
+fn lookups_are_right(random: &mut Random, table: &[u64], columns: usize, file: &[u8]) {
+    let program = compile(file, usize::MAX).unwrap();
+    let (mut of_r, mut of_strings) = (BTreeMap::new(), BTreeMap::new());
+    for r in 1..=1 << columns {
+        let sample = lookup(table, columns, r).unwrap();
+        let found: Vec<usize> = sample.into_iter().collect();
+        assert_eq!(found, samples_between(table, r));
+        assert_eq!(sample.is_none(), r > table[table.len() - 1]);
+        *of_r.entry(sample).or_insert(0) += 1;
+    }
+    for bits in all_strings(columns) {
+        let sample = given(random, &program, &bits);
+        *of_strings.entry(sample).or_insert(0) += 1;
+    }
+    assert_eq!(of_r, of_strings);
+}
+
+/// Every list of so many numbers from 0 to `most`.
+fn all_lists(length: usize, most: u64) -> impl Iterator<Item = Vec<u64>> {
+    let base = most + 1;
+    let digit = move |number: u64, v: usize| number / base.pow(v as u32) % base;
+    (0..base.pow(length as u32)).map(move |number| (0..length).map(|v| digit(number, v)).collect())
+}
+
+/// All lists of numbers to 2^n + 1: of up to five with one column, four with two, three with three.
+/// As many as can be worked out are tables, and refused with 15 and with 16.
+#[test]
+fn all_small_tables() {
+    let mut random = Random::new(24);
+    let mut met = BTreeMap::new();
+    for (most_numbers, columns) in [(5, 1), (4, 2), (3, 3)] {
+        for numbers in 2..=most_numbers {
+            for table in all_lists(numbers, (1 << columns) + 1) {
+                let (answer, refusal) = (
+                    import(&table, columns, usize::MAX),
+                    table_refusal(&table, columns),
+                );
+                assert_eq!(answer.as_ref().err(), refusal.as_ref());
+                assert_eq!(lookup(&table, columns, 1).err(), refusal);
+                *met.entry(refusal).or_insert(0) += 1;
+                if let Ok(file) = answer {
+                    assert_eq!(check(&file), Ok((numbers - 1, columns)));
+                    assert_eq!(export(&file, numbers).unwrap().table, table);
+                    lookups_are_right(&mut random, &table, columns, &file);
+                }
+            }
+        }
+    }
+    assert_eq!(met, ALL_SMALL_TABLES.into());
+}
+
+/// Of m rows there are C(2^n + m, m) tables that do not fall and do not pass 2^n, and of these m
+/// have a difference of 2^n. So of 1 to 4 rows of one column, 1 to 3 of two, 1 and 2 of three, in
+/// all (3 + 6 + 10 + 15) + (5 + 15 + 35) + (9 + 45) = 143, of which 10 + 6 + 3 have one.
+const ALL_SMALL_TABLES: [(Option<u32>, usize); 3] = [
+    (None, 143 - 19),
+    (
+        Some(15),
+        16 + 64 + 256 + 1_024 + 36 + 216 + 1_296 + 100 + 1_000 - 143,
+    ),
+    (Some(16), 19),
+];
+
+/// The table of every small matrix: entry v is the sum of the rows before v.
+#[test]
+fn tables_of_all_small_matrices() {
+    for (rows, columns) in small_sizes(12) {
+        for matrix in all_matrices(rows, columns).filter(Matrix::is_accepted) {
+            let file = matrix.encode();
+            let exported = export(&file, rows + 1).unwrap();
+            assert_eq!(exported.columns, columns);
+            let mut sum = 0;
+            for (v, &number) in exported.table.iter().enumerate() {
+                assert_eq!(number, sum);
+                if v < rows {
+                    let bits = matrix.row(v).iter();
+                    sum += bits.fold(0, |value, &bit| 2 * value + u64::from(bit));
+                }
+            }
+            assert_eq!(import(&exported.table, columns, file.len()), Ok(file));
+        }
+    }
+}
+
+/// Random matrices of all rows and of 1 to 63 columns: their tables import as the same file, and
+/// where a row is not 0 the first and the last r of its numbers, and any between, give its sample.
+#[test]
+fn random_tables_there_and_back() {
+    let mut random = Random::new(25);
+    let (mut hits, mut misses) = (0, 0);
+    for case in 0..600 {
+        let (numbers, columns) = random::table_sizes(&mut random);
+        let columns = if case < 63 { case + 1 } else { columns };
+        let matrix = random::matrix(&mut random, numbers - 1, columns);
+        let file = matrix.encode();
+        let exported = export(&file, numbers).unwrap();
+        let table = exported.table;
+        assert_eq!((exported.columns, table.len()), (columns, numbers));
+        assert_eq!(import(&table, columns, file.len()).as_ref(), Ok(&file));
+        for (v, pair) in table.windows(2).enumerate() {
+            assert_eq!(Natural::from(pair[1] - pair[0]), matrix.value(v));
+            if pair[0] < pair[1] {
+                let any = pair[0] + 1 + random.word() % (pair[1] - pair[0]);
+                for r in [pair[0] + 1, any, pair[1]] {
+                    assert_eq!(lookup(&table, columns, r), Ok(Some(v)));
+                    hits += 1;
+                }
+            }
+        }
+        let (last, all) = (table[numbers - 1], 1 << columns);
+        if last < all {
+            for r in [last + 1, all] {
+                assert_eq!(lookup(&table, columns, r), Ok(None));
+                misses += 1;
+            }
+        }
+    }
+    assert!(hits > 10_000 && misses > 300, "{hits} and {misses}");
+}
+
+/// Tables of up to 40 rows and 7 columns, over all r and all strings.
+#[test]
+fn lookups_of_random_tables() {
+    let mut random = Random::new(26);
+    for _ in 0..60 {
+        let (rows, columns) = (random.between(1, 40), random.between(1, 7));
+        let matrix = random::matrix(&mut random, rows, columns);
+        let (table, file) = (table_of(&matrix), matrix.encode());
+        lookups_are_right(&mut random, &table, columns, &file);
+    }
+}
+
+/// Tables of all sizes with faults, and numbers to look up within and without, against the rules as
+/// they stand.
+#[test]
+fn tables_with_faults() {
+    let mut random = Random::new(27);
+    let mut met = BTreeMap::new();
+    for _ in 0..3_000 {
+        let (numbers, columns) = random::table_sizes(&mut random);
+        let mut table = random::table(&mut random, numbers, columns);
+        for _ in 0..random.below(3) {
+            random::table_fault(&mut random, &mut table, columns);
+        }
+        let refusal = table_refusal(&table, columns);
+        let answer = import(&table, columns, usize::MAX);
+        assert_eq!(answer.err(), refusal);
+        let r = random::within(&mut random, &table, columns);
+        assert_eq!(lookup(&table, columns, r).err(), refusal);
+        let r = random::without(&mut random, columns);
+        assert_eq!(lookup(&table, columns, r), Err(3));
+        *met.entry(refusal).or_insert(0) += 1;
+    }
+    assert!(
+        met.len() == 3 && met.values().all(|&often| often > 300),
+        "{met:?}"
+    );
+}
+
 #[test]
 fn files_are_read_and_written_alike() {
     let mut random = Random::new(12);
@@ -610,4 +792,46 @@ fn lent_results_are_untouched_by_a_refusal() {
     let mut x4 = [1; 64];
     x4[63] = 128;
     assert_eq!(combined(&x4, 11, 66), (5, [77; 66]));
+}
+
+/// What importing, exporting and looking up answer with is laid down at the front alone, and by a
+/// refusal nothing is.
+#[test]
+fn lent_tables_are_untouched_by_a_refusal() {
+    let import = |table: &[u64], columns: usize, lent: usize| {
+        let (mut file, mut length) = ([0xa5; 13], 77);
+        let returned = lent::import(table, columns, &mut file[..lent], &mut length);
+        (returned, file, length)
+    };
+    let file = [0x0b, 0, 0x20, 0, 3, 0, 2, 0, 0x80, 0x40, 0x40, 0xa5, 0xa5];
+    for lent in [11, 12, 13] {
+        assert_eq!(import(&[0, 2, 3, 4], 2, lent), (0, file, 11));
+    }
+    assert_eq!(import(&[0, 2, 3, 4], 2, 10), (13, [0xa5; 13], 77));
+    assert_eq!(import(&[0, 2, 3, 4], 0, 13), (3, [0xa5; 13], 77));
+    assert_eq!(import(&[0, 2, 1, 4], 2, 13), (15, [0xa5; 13], 77));
+    assert_eq!(import(&[0, 0, 4, 4], 2, 13), (16, [0xa5; 13], 77));
+
+    let export = |file: &[u8], lent: usize| {
+        let (mut table, mut numbers, mut columns) = ([9; 6], 77, 88);
+        let returned = lent::export(file, &mut table[..lent], &mut numbers, &mut columns);
+        (returned, table, (numbers, columns))
+    };
+    for lent in [4, 5, 6] {
+        assert_eq!(export(&file[..11], lent), (0, [0, 2, 3, 4, 9, 9], (4, 2)));
+    }
+    assert_eq!(export(&file[..11], 3), (13, [9; 6], (77, 88)));
+    assert_eq!(export(&file[..10], 6), (1, [9; 6], (77, 88)));
+    let wide = Matrix::from_texts(&[&"0".repeat(64)]).encode();
+    assert_eq!(export(&wide, 6), (3, [9; 6], (77, 88)));
+
+    let lookup = |table: &[u64], r: u64| {
+        let mut sample = 77;
+        (lent::lookup(table, 2, r, &mut sample), sample)
+    };
+    assert_eq!(lookup(&[0, 2, 3, 4], 4), (0, 2));
+    assert_eq!(lookup(&[0, 2, 3], 4), (0, 255));
+    assert_eq!(lookup(&[0, 2, 3], 5), (3, 77));
+    assert_eq!(lookup(&[0, 2, 1], 1), (15, 77));
+    assert_eq!(lookup(&[0, 4], 1), (16, 77));
 }

@@ -1,7 +1,8 @@
 //! 01, "Checked by hand": every case, with the answers that stand there. 02, by hand: order 1, the
-//! columns that these walks use; order 2, results of four samples.
+//! columns that these walks use; order 2, results of four samples; order 4, cumulative tables.
 
 use reference::compiler::{compile, translate};
+use reference::cumulative::{export, import, lookup, sums, Exported};
 use reference::listing::lister;
 use reference::machine::{resume, start};
 use reference::matrix::{check, read, write, Matrix};
@@ -279,4 +280,78 @@ fn counts_of_samples_and_results() {
     let zero = Matrix::from_texts(&["1"]);
     assert_eq!(result_counts([&zero; 4], 3, 11), counts_of(&[(0, 16)]));
     assert_eq!(combined_misses([&zero; 4]), Natural::from(256 - 16));
+}
+
+/// 02, order 4, on the rows 10, 01, 01: T is 0, 2, 3, 4. Of the four strings, too, two give 0, one
+/// gives 1 and one gives 2.
+#[test]
+fn table_of_three_rows() {
+    let file = [0x0b, 0, 0x20, 0, 3, 0, 2, 0, 0x80, 0x40, 0x40];
+    let table = [0, 2, 3, 4];
+    assert_eq!(import(&table, 2, 11), Ok(file.to_vec()));
+    let exported = Exported {
+        columns: 2,
+        table: table.to_vec(),
+    };
+    assert_eq!(export(&file, 4), Ok(exported));
+    for (r, sample) in [(1, 0), (2, 0), (3, 1), (4, 2)] {
+        assert_eq!(lookup(&table, 2, r), Ok(Some(sample)));
+    }
+    assert_eq!(lookup(&table, 2, 0), Err(3));
+    assert_eq!(lookup(&table, 2, 5), Err(3));
+}
+
+/// Rows 001, 000, 010, 011 of three columns: T is 0, 1, 1, 3, 6, no r gives 1, and 7 and 8 miss.
+#[test]
+fn table_with_a_row_of_0_and_misses() {
+    let file = file_of(&["001", "000", "010", "011"]);
+    let table = [0, 1, 1, 3, 6];
+    assert_eq!(import(&table, 3, usize::MAX).as_ref(), Ok(&file));
+    assert_eq!(export(&file, usize::MAX).unwrap().table, table);
+    let found: Vec<_> = (1..=8).map(|r| lookup(&table, 3, r).unwrap()).collect();
+    let hits = [0, 2, 2, 3, 3, 3].map(Some);
+    assert_eq!(found, [&hits[..], &[None; 2]].concat());
+    // No row at all has a 1.
+    assert_eq!(import(&[0, 0], 1, 9), Ok(file_of(&["0"])));
+    for r in [1, 2] {
+        assert_eq!(lookup(&[0, 0], 1, r), Ok(None));
+    }
+}
+
+/// 2^63 is the last number of two rows of 63 columns, 1 and 2^63 - 1.
+#[test]
+fn table_of_63_columns() {
+    let (top, one) = (1 << 63, format!("{}1", "0".repeat(62)));
+    let file = file_of(&[&one, &"1".repeat(63)]);
+    assert_eq!(import(&[0, 1, top], 63, 24).as_ref(), Ok(&file));
+    let exported = export(&file, 3).unwrap();
+    assert_eq!((exported.columns, exported.table), (63, vec![0, 1, top]));
+    for (r, sample) in [(1, 0), (2, 1), (top - 1, 1), (top, 1)] {
+        assert_eq!(lookup(&[0, 1, top], 63, r), Ok(Some(sample)));
+    }
+    // With 64 columns the last sum is 2^64, which has no place in 64 bits.
+    let wide = Matrix::from_texts(&[&format!("0{one}"), &"1".repeat(64)]);
+    let all = Natural::power_of_two(64);
+    assert_eq!(sums(&wide), [Natural::zero(), Natural::from(1), all]);
+    assert_eq!(export(&wide.encode(), 3), Err(3));
+}
+
+/// 02: 3, then 15, then 16, then 13.
+#[test]
+fn what_can_not_be_imported() {
+    for (table, columns, number) in [
+        (&[0][..], 2, 3),
+        (&[0, 1], 0, 3),
+        (&[0, 1], 64, 3),
+        (&[1, 2], 2, 15),
+        (&[0, 2, 1], 2, 15),
+        (&[0, 5], 2, 15),
+        (&[0, 4], 2, 16),
+        (&[0, 0, 4, 4], 2, 16),
+    ] {
+        assert_eq!(import(table, columns, usize::MAX), Err(number));
+        assert_eq!(lookup(table, columns, 1), Err(number));
+    }
+    assert_eq!(import(&[0, 3], 2, 8), Err(13));
+    assert_eq!(import(&[0, 3], 2, 9), Ok(file_of(&["11"])));
 }

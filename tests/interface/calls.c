@@ -122,6 +122,26 @@ uint32_t through_combine(const int16_t *x1, size_t x1_length, const int16_t *x2,
 }
 SAME_TYPE(combine);
 
+/* ---- cumulative tables ---- */
+
+uint32_t through_import(const uint64_t *table, size_t table_length, size_t columns, uint8_t *file, size_t file_length, size_t *length)
+{
+    return corkhollow_import(table, table_length, columns, file, file_length, length);
+}
+SAME_TYPE(import);
+
+uint32_t through_export(const uint8_t *file, size_t file_length, uint64_t *table, size_t table_length, size_t *numbers, size_t *columns)
+{
+    return corkhollow_export(file, file_length, table, table_length, numbers, columns);
+}
+SAME_TYPE(export);
+
+uint32_t through_lookup(const uint64_t *table, size_t table_length, size_t columns, uint64_t r, size_t *sample)
+{
+    return corkhollow_lookup(table, table_length, columns, r, sample);
+}
+SAME_TYPE(lookup);
+
 /* ---- numbers, in the order of src/numbers.rs ---- */
 
 const uint64_t through_numbers[] = {
@@ -140,6 +160,8 @@ const uint64_t through_numbers[] = {
     CORKHOLLOW_POSITION,
     CORKHOLLOW_BUFFER,
     CORKHOLLOW_MULTIPLIER,
+    CORKHOLLOW_TABLE,
+    CORKHOLLOW_STEP,
     CORKHOLLOW_LANES,
     CORKHOLLOW_ROWS,
     CORKHOLLOW_COLUMNS,
@@ -148,6 +170,7 @@ const uint64_t through_numbers[] = {
     CORKHOLLOW_OUTPUTS,
     CORKHOLLOW_INSTRUCTIONS,
     CORKHOLLOW_MOST_MULTIPLIER,
+    CORKHOLLOW_TABLE_COLUMNS,
     CORKHOLLOW_MISS,
     CORKHOLLOW_SIGNED_MISS,
     CORKHOLLOW_COMBINED_MISS,
@@ -155,6 +178,7 @@ const uint64_t through_numbers[] = {
     CORKHOLLOW_MOST_MATRIX_BYTES,
     CORKHOLLOW_MOST_PROGRAM_BYTES,
     CORKHOLLOW_MOST_STRING_BYTES,
+    CORKHOLLOW_MOST_TABLE_NUMBERS,
 };
 const size_t through_numbers_length = sizeof through_numbers / sizeof through_numbers[0];
 
@@ -166,6 +190,7 @@ IS_LENGTH(CORKHOLLOW_MOST_ENTRIES);
 IS_LENGTH(CORKHOLLOW_MOST_MATRIX_BYTES);
 IS_LENGTH(CORKHOLLOW_MOST_PROGRAM_BYTES);
 IS_LENGTH(CORKHOLLOW_MOST_STRING_BYTES);
+IS_LENGTH(CORKHOLLOW_MOST_TABLE_NUMBERS);
 
 size_t through_width(size_t columns)
 {

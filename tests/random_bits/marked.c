@@ -1,8 +1,9 @@
 /*
- * Under valgrind's memcheck: marks strings, words, outputs, sign and signed samples as undefined and runs each operation. memcheck counts
- * every jump and every address that depends on an undefined bit: there must be none, but in the operations that choose by the random bits,
- * in which there must be some, and in combining, in which there must be one: whether it refuses the lists. What an operation leaves must
- * be undefined in turn, so that it did work on the marked bits.
+ * Under valgrind's memcheck: marks strings, words, outputs, sign, signed samples and the numbers that are looked up as undefined and runs
+ * each operation. memcheck counts every jump and every address that depends on an undefined bit: there must be none, but in the operations
+ * that choose by the random bits, in which there must be some, in combining, in which there must be one, whether it refuses the lists, and
+ * in looking up, in which there may be three: whether the number is too small, too large, or misses. What an operation leaves must be
+ * undefined in turn, so that it did work on the marked bits.
  * usage: marked COLUMNS
  */
 #include "operations.h"
@@ -27,6 +28,8 @@ static bool as_it_must(const struct operation *o, struct batch *b) {
     VALGRIND_MAKE_MEM_UNDEFINED(b->outputs, sizeof b->outputs);
     VALGRIND_MAKE_MEM_UNDEFINED(&b->sign, sizeof b->sign);
     VALGRIND_MAKE_MEM_UNDEFINED(b->lists, sizeof b->lists);
+    VALGRIND_MAKE_MEM_UNDEFINED(&b->hit, sizeof b->hit);
+    VALGRIND_MAKE_MEM_UNDEFINED(&b->miss, sizeof b->miss);
     VALGRIND_MAKE_MEM_DEFINED(o->result, o->size);
     unsigned before = VALGRIND_COUNT_ERRORS;
     o->run(b);

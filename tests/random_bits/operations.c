@@ -8,6 +8,8 @@ static uint64_t sliced[CORKHOLLOW_COLUMNS], registers[CORKHOLLOW_REGISTERS], out
 static uint8_t samples[CORKHOLLOW_LANES];
 static int16_t signed_samples[CORKHOLLOW_LANES];
 static int32_t results[CORKHOLLOW_LANES];
+static uint64_t table[CORKHOLLOW_MOST_TABLE_NUMBERS];
+static size_t numbers, table_columns, sample;
 static uint32_t refused;
 
 static void start_within(const struct batch *b, uint32_t budget, uint32_t *position) {
@@ -64,7 +66,15 @@ static void combine(const struct batch *b) {
                                   CORKHOLLOW_LANES, 3, 11, results, CORKHOLLOW_LANES);
 }
 
-/* Combining chooses once, when it has looked at all entries: whether they are refused. */
+static void lookup(const struct batch *b) { refused |= corkhollow_lookup(table, numbers, table_columns, b->hit, &sample); }
+
+static void lookup_miss(const struct batch *b) { refused |= corkhollow_lookup(table, numbers, table_columns, b->miss, &sample); }
+
+/*
+ * Combining chooses once, when it has looked at all entries: whether they are refused. Looking up chooses whether the number is too small,
+ * whether it is too large, and whether it misses: a search by halves would choose seven times more. Of a sample the lowest byte depends on
+ * the number, and for a number that misses none.
+ */
 struct operation operations[OPERATIONS] = {
     {"start", start, 0, 0, outputs, 0},
     {"stop and resume", stop_and_resume, 0, 0, outputs, 0},
@@ -74,10 +84,22 @@ struct operation operations[OPERATIONS] = {
     {"draw", draw, 0, 0, samples, sizeof samples},
     {"draw_signed", draw_signed, 0, 0, signed_samples, sizeof signed_samples},
     {"combine", combine, 1, 1, results, sizeof results},
+    {"lookup", lookup, 1, 3, &sample, 1},
+    {"lookup, misses", lookup_miss, 1, 3, NULL, 0},
     {"slice, spare bits", slice_spare, 1, MANY, NULL, 0},
     {"walk", walk, 1, MANY, NULL, 0},
     {"spent", spent, 1, MANY, NULL, 0},
 };
+
+static bool table_made(size_t columns) {
+    uint32_t weights[ROWS];
+    uint8_t file[CORKHOLLOW_MOST_MATRIX_BYTES];
+    size_t length;
+    for (int i = 0; i < ROWS; i++) weights[i] = 1;
+    if (columns > CORKHOLLOW_TABLE_COLUMNS) columns = CORKHOLLOW_TABLE_COLUMNS;
+    if (corkhollow_build(weights, ROWS, columns, false, file, sizeof file, &length)) return false;
+    return !corkhollow_export(file, length, table, CORKHOLLOW_MOST_TABLE_NUMBERS, &numbers, &table_columns);
+}
 
 bool program_made(size_t columns) {
     static const uint32_t weights[] = {4, 3, 2, 1};
@@ -90,7 +112,7 @@ bool program_made(size_t columns) {
         if (operations[i].result == outputs) operations[i].size = n_outputs * sizeof *outputs;
         if (operations[i].result == sliced) operations[i].size = n_columns * sizeof *sliced;
     }
-    return true;
+    return table_made(columns);
 }
 
 static void fill_lists(struct batch *b, int16_t entry(void)) {
@@ -114,6 +136,13 @@ static int16_t random_entry(void) {
     return x >> 61 == 0 ? CORKHOLLOW_SIGNED_MISS : (int16_t)((x >> 32) % 255) - 127;
 }
 
+/* The number of the table's that is `part` of 2^64 on the way from the first that hits to the last, and the same of those that miss. */
+static void fill_numbers(struct batch *b, uint64_t part) {
+    uint64_t last = table[numbers - 1], all = (uint64_t)1 << table_columns;
+    b->hit = 1 + (uint64_t)((unsigned __int128)part * last >> 64);
+    b->miss = last + 1 + (uint64_t)((unsigned __int128)part * (all - last) >> 64);
+}
+
 static void complete(struct batch *b) {
     b->strings_length = CORKHOLLOW_LANES * CORKHOLLOW_WIDTH(n_columns);
     slice(b);
@@ -125,6 +154,7 @@ static void complete(struct batch *b) {
 void missing_batch(struct batch *b) {
     memset(b->strings, 0xff, sizeof b->strings);
     fill_lists(b, missing_entry);
+    fill_numbers(b, UINT64_MAX);
     b->sign = UINT64_MAX;
     complete(b);
 }
@@ -132,6 +162,7 @@ void missing_batch(struct batch *b) {
 void zero_batch(struct batch *b) {
     memset(b->strings, 0, sizeof b->strings);
     fill_lists(b, zero_entry);
+    fill_numbers(b, 0);
     b->sign = 0;
     complete(b);
 }
@@ -139,8 +170,19 @@ void zero_batch(struct batch *b) {
 void random_batch(struct batch *b) {
     for (size_t i = 0; i < sizeof b->strings; i++) b->strings[i] = next_random() >> 56;
     fill_lists(b, random_entry);
+    fill_numbers(b, next_random());
     b->sign = next_random();
     complete(b);
+}
+
+size_t sample_of_hit(const struct batch *b) {
+    lookup(b);
+    return sample;
+}
+
+size_t sample_of_miss(const struct batch *b) {
+    lookup_miss(b);
+    return sample;
 }
 
 bool any_refused(void) { return refused != 0; }

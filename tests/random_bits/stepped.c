@@ -1,7 +1,7 @@
 /*
- * Steps each operation on batches that miss in all lanes and that hit in all, and whose lists of signed samples have misses alone, none or
- * some. One that does not choose by the random bits, or chooses only whether it refuses, takes as many machine instructions for each of
- * them, and one that does is seen to.
+ * Steps each operation on batches that miss in all lanes and that hit in all, whose lists of signed samples have misses alone, none or
+ * some, and whose numbers to look up give the last sample, the first or any. One that does not choose by the random bits, or chooses only
+ * whether it refuses or misses, takes as many machine instructions for each of them, and one that does is seen to.
  */
 #include "operations.h"
 
@@ -25,6 +25,16 @@ static int misses(const struct batch *b) {
         for (int j = 0; j < CORKHOLLOW_LANES; j++) many += b->lists[i][j] == CORKHOLLOW_SIGNED_MISS;
     }
     return many;
+}
+
+/* Of the numbers that hit, the last sample, the first, and any between; of the others all miss, and no two batches' are the same. */
+static bool are_numbers_as_meant(const struct batch *batches) {
+    for (int i = 0; i < BATCHES; i++) {
+        if (sample_of_miss(&batches[i]) != CORKHOLLOW_MISS) return false;
+    }
+    size_t any = sample_of_hit(&batches[2]);
+    return sample_of_hit(&batches[0]) == ROWS - 1 && sample_of_hit(&batches[1]) == 0 && any > 0 && any < ROWS - 1 &&
+           batches[0].miss > batches[2].miss && batches[2].miss > batches[1].miss;
 }
 
 /* The strings of the first batch miss, and those of the others hit; of the entries of the lists all miss, then none, then some. */
@@ -54,7 +64,7 @@ int main(void) {
     missing_batch(&batches[0]);
     zero_batch(&batches[1]);
     random_batch(&batches[2]);
-    if (!are_as_meant(batches)) return printf("the lanes are not as meant\n"), 1;
+    if (!are_as_meant(batches) || !are_numbers_as_meant(batches)) return printf("the batches are not as meant\n"), 1;
     printf("%-18s %9s %9s %9s\n", "machine instr.", "all miss", "all hit", "any");
     for (int i = 0; i < OPERATIONS; i++) {
         if (!counted(operations[i].run, batches, counts)) return printf("random_bits: SKIPPED: no process can be stepped here\n"), 0;

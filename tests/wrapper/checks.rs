@@ -53,6 +53,8 @@ pub fn all() -> Checked {
     in_parts(program)?;
     a_miss()?;
     wide_bells()?;
+    cumulative_tables()?;
+    looked_up()?;
     must("refusal", a_refusal() == Err(Refusal(1)))
 }
 
@@ -207,4 +209,71 @@ fn wide_bells() -> Checked {
     let short = corkhollow::combine(&list, &list, &list, &list, 3, 11, &mut results[1..]);
     let untouched = results == [7; LANES];
     must("combine", short == Err(Refusal(13)) && untouched)
+}
+
+/// 02, order 4: the rows 10, 01, 01 add up to 2, 3, 4.
+const TABLE: [u64; 4] = [0, 2, 3, 4];
+
+/// What import leaves of a file of which every byte is 7 before.
+fn imported(table: &[u64], columns: usize) -> (Result<usize, Refusal>, [u8; 12]) {
+    let mut file = [7; 12];
+    (corkhollow::import(table, columns, &mut file), file)
+}
+
+/// The table as a file, and back; 3, 15, 16 and 13.
+fn cumulative_tables() -> Checked {
+    let (length, file) = imported(&TABLE, 2);
+    must(
+        "import",
+        length == Ok(11) && file[..11] == FILE && file[11] == 7,
+    )?;
+    for (table, columns, number) in [
+        (&TABLE[..1], 2, 3),
+        (&TABLE, 64, 3),
+        (&[1, 2, 3, 4], 2, 15),
+        (&[0, 2, 1, 4], 2, 15),
+        (&TABLE, 1, 15),
+        (&[0, 0, 4, 4], 2, 16),
+    ] {
+        let wanted = (Err(Refusal(number)), [7; 12]);
+        must("import", imported(table, columns) == wanted)?;
+    }
+    let mut file = [7; 10];
+    let short = corkhollow::import(&TABLE, 2, &mut file);
+    must("import", short == Err(Refusal(13)) && file == [7; 10])?;
+    let mut table = [7; 5];
+    let sizes = corkhollow::export(&FILE, &mut table);
+    must("export", sizes == Ok((4, 2)) && table == [0, 2, 3, 4, 7])?;
+    let mut table = [7; 3];
+    let short = corkhollow::export(&FILE, &mut table);
+    must("export", short == Err(Refusal(13)) && table == [7; 3])?;
+    must(
+        "export",
+        corkhollow::export(&FILE[..10], &mut table) == Err(Refusal(1)),
+    )
+}
+
+/// 1 and 2 are sample 0, 3 is 1, 4 is 2; without the last row, 4 misses.
+fn looked_up() -> Checked {
+    for (r, sample) in [(1, 0), (2, 0), (3, 1), (4, 2)] {
+        must(
+            "lookup",
+            corkhollow::lookup(&TABLE, 2, r) == Ok(Some(sample)),
+        )?;
+    }
+    must("lookup", corkhollow::lookup(&TABLE[..3], 2, 4) == Ok(None))?;
+    for r in [0, 5] {
+        must(
+            "lookup",
+            corkhollow::lookup(&TABLE, 2, r) == Err(Refusal(3)),
+        )?;
+    }
+    must(
+        "lookup",
+        corkhollow::lookup(&TABLE, 1, 1) == Err(Refusal(15)),
+    )?;
+    must(
+        "lookup",
+        corkhollow::lookup(&[0, 4], 2, 1) == Err(Refusal(16)),
+    )
 }

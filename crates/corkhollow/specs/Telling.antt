@@ -5,7 +5,6 @@ use mathlib.Core.Bool.{Bool}
 use mathlib.Core.List.{List}
 use lib.ListN
 use Rattle.laws.specs.Outcome.{Outcome, refused, gives, mapped}
-use Rattle.files.specs.Matrix.{Matrix, Sizes, sizes}
 use Rattle.walk.specs.Walk.{Spending}
 use Rattle.programs.specs.declared.description.Program.{Program}
 use Rattle.machine.specs.declared.runs.Run.{Run}
@@ -56,16 +55,16 @@ writes say o length c p a t =
     let f : List ℕ → ℕ = ListN.length in
     (returns-of say f o c (p .0) a, p .1, tells-of say f (λ n. n) o length c (p .0) t)
 
--- a matrix is read, and its sizes told
-pub reads : {X P : Type 0} (say : X → Outcome Sizes) (o : Outcome Matrix) {x y : X} {r rows′ columns′ : ℕ} (rows columns : ℕ) → x ≡ y →
-    (say x ≡ mapped sizes o) × P → Returns (say y) r → Tells (λ s. s .rows) (say y) rows rows′ →
-    Tells (λ s. s .columns) (say y) columns columns′ →
-    (r ≡ returned o) × P × (rows′ ≡ told (λ M. M .rows) o rows) × (columns′ ≡ told (λ M. M .columns) o columns)
-reads say o rows columns c p a s t = (
-  returns-of say sizes o c (p .0) a,
+-- a result is laid down, and two parts of it told: the sizes of a matrix that is read, or of a table that is exported
+pub lays-two : {X A B P : Type 0} (say : X → Outcome B) (f : A → B) (one two : B → ℕ) (o : Outcome A) {x y : X} {r first′ second′ : ℕ}
+    (first second : ℕ) → x ≡ y → (say x ≡ mapped f o) × P → Returns (say y) r → Tells one (say y) first first′ →
+    Tells two (say y) second second′ →
+    (r ≡ returned o) × P × (first′ ≡ told (λ a. one (f a)) o first) × (second′ ≡ told (λ a. two (f a)) o second)
+lays-two say f one two o first second c p a s t = (
+  returns-of say f o c (p .0) a,
   p .1,
-  tells-of say sizes (λ s. s .rows) o rows c (p .0) s,
-  tells-of say sizes (λ s. s .columns) o columns c (p .0) t,
+  tells-of say f one o first c (p .0) s,
+  tells-of say f two o second c (p .0) t,
 )
 
 -- a matrix is walked, and the row and the columns used told
@@ -80,13 +79,13 @@ walks say o row used c e a t u =
       tells-of say whole (λ w. w .used) o used c all u,
     )
 
--- a matrix is walked on 64 strings, and the total told
-pub totals : {X : Type 0} (say : X → Outcome ℕ) (o : Outcome ℕ) {x y : X} {r total′ : ℕ} (total : ℕ) → x ≡ y → say x ≡ o →
-    Returns (say y) r → Tells (λ n. n) (say y) total total′ → (r ≡ returned o) × (total′ ≡ told (λ n. n) o total)
-totals say o total c e a t =
-    let whole : ℕ → ℕ = λ n. n in
+-- one number is told of an answer: what 64 walks have used, or the sample that is looked up
+pub tells-one : {X A : Type 0} (say : X → Outcome A) (part : A → ℕ) (o : Outcome A) {x y : X} {r one′ : ℕ} (one : ℕ) → x ≡ y →
+    say x ≡ o → Returns (say y) r → Tells part (say y) one one′ → (r ≡ returned o) × (one′ ≡ told part o one)
+tells-one {A = A} say part o one c e a t =
+    let whole : A → A = λ a. a in
     let all = e ∙ all-of o in
-    (returns-of say whole o c all a, tells-of say whole whole o total c all t)
+    (returns-of say whole o c all a, tells-of say whole part o one c all t)
 
 -- a program is checked, and its header told
 pub checks : {X : Type 0} (say : X → Outcome Program) (o : Outcome Code) {x y : X} {r registers′ inputs′ outputs′ count′ : ℕ}

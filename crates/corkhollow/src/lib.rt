@@ -7,6 +7,7 @@ mod matrices;
 mod runs;
 mod samples;
 mod signed;
+mod tables;
 
 pub use draws::corkhollow_draw;
 pub use draws::corkhollow_draw_signed;
@@ -23,3 +24,6 @@ pub use samples::corkhollow_samples;
 pub use samples::corkhollow_slice;
 pub use signed::corkhollow_combine;
 pub use signed::corkhollow_signed_samples;
+pub use tables::corkhollow_export;
+pub use tables::corkhollow_import;
+pub use tables::corkhollow_lookup;

@@ -24,6 +24,7 @@ use Rattle.machine.specs.Runs.{startOf, startOn, resumeOf, resumeOn}
 use Rattle.walk.specs.Walk.{walkOf}
 use Rattle.lanes.specs.Slicing.{lanes, sliceOf}
 use Rattle.spent.specs.Spent.{spentOf}
+use Rattle.cumulative.specs.Tables.{exportOf}
 use Rattle.compiler.specs.Translation.{compileOf}
 use Rattle.drawing.specs.Drawing.{drawnWith}
 
@@ -46,6 +47,10 @@ spent-through strings = record { rest = _; goes-on = λ file. refl }
 pub compile-through : (room : ℕ) → Through matrixOf (λ file. compileOf file room)
 unfolding compileOf
 compile-through room = record { rest = _; goes-on = λ file. refl }
+
+pub export-through : (room : ℕ) → Through matrixOf (λ file. exportOf file room)
+unfolding exportOf
+export-through room = record { rest = _; goes-on = λ file. refl }
 
 -- ---- what takes a program file goes on from the program that is checked
 pub check-program-through : Through checkOf (λ file. mapped (λ c. c .program) (checkOf file))

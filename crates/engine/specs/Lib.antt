@@ -10,5 +10,6 @@ pub mod Values
 pub mod Parts
 pub mod Wide
 pub mod WideDraws
+pub mod Tables
 pub mod Foreign
 pub mod Cases

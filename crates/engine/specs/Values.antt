@@ -1,14 +1,14 @@
 -- The integers of size at most b, each once. Assumes nothing.
-use Prim.Native.Nat.{ℕ, zero, suc, _+_, _*_, _≤_, _<_}
+use Prim.Native.Nat.{ℕ, suc, _+_, _*_, _≤_, _<_}
 use mathlib.Core.Path.{_≡_, refl, sym, ap, ap₂, _∙_}
-use mathlib.Core.List.{List, [], _∷_, _++_, map}
+use mathlib.Core.List.{List, _++_, map}
 use native.Mathlib.Omega.{arith}
 use borrow.Author.Tests.{eq-eqb, ne-eqb}
 use lib.Dec.{eqb}
 use lib.IntN.{ℤ, pos, negsuc, natAbs}
-use Rattle.laws.specs.Sums.{sumTo, sum-eq}
-use Rattle.laws.specs.Lists.{Each, each-append, each-blocks, each-map, blocks, upto}
-use Rattle.walk.specs.Strings.{over, one-if, count, over-append, over-map, over-none}
+use Rattle.laws.specs.Sums.{sum-eq}
+use Rattle.laws.specs.Lists.{Each, each-append, each-map, each-upto, upto}
+use Rattle.walk.specs.Strings.{over, one-if, count, over-append, over-map, over-upto, over-none}
 use Rattle.walk.specs.Counts.{sum-one}
 use Rattle.combining.specs.Integers.{sameZ}
 
@@ -16,14 +16,9 @@ use Rattle.combining.specs.Integers.{sameZ}
 unfoldable pub valuesTo : ℕ → List ℤ
 valuesTo b = map negsuc (upto b (λ i. i)) ++ map pos (upto (suc b) (λ i. i))
 
-over-upto : (n : ℕ) (g : ℕ → ℕ) → over (upto n (λ i. i)) g ≡ sumTo n g
-unfolding upto blocks over sumTo
-over-upto zero g = refl
-over-upto (suc n) g = over-append g (blocks n (λ i. i ∷ [])) (n ∷ []) ∙ omega (arith, over-upto n g)
-
 once : (n x : ℕ) → x < n → over (upto n (λ i. i)) (λ i. one-if (eqb x i)) ≡ 1
 once n x h =
-    over-upto n (λ i. one-if (eqb x i)) ∙
+    over-upto n (λ i. i) (λ i. one-if (eqb x i)) ∙
     (sum-eq n (λ i. one-if (eqb x i)) (λ i. 1 * one-if (eqb x i)) (λ i l. omega arith) ∙
     sum-one n x (λ i. 1) (λ i. one-if (eqb x i)) (ap one-if (eq-eqb x x refl)) (λ i ne. ap one-if (ne-eqb x i (λ e. ne (sym e)))) h)
 
@@ -42,13 +37,12 @@ value-once b (pos x) h =
 value-once b (negsuc x) h =
     by-sign b (λ z. one-if (sameZ (negsuc x) z)) ∙ ap₂ _+_ (once b x h) (over-none (upto (suc b) (λ i. i)))
 
-each-upto : (n : ℕ) → Each (λ i. i < n) (upto n (λ i. i))
-unfolding upto
-each-upto n = each-blocks (λ i. i < n) (λ i. i ∷ []) n (λ i h. (h, tt))
-
 pub values-small : (b : ℕ) → Each (λ z. natAbs z ≤ b) (valuesTo b)
 unfolding valuesTo
 values-small b =
     each-append (λ z. natAbs z ≤ b) (map negsuc (upto b (λ i. i))) (map pos (upto (suc b) (λ i. i)))
-    (each-map (λ i. i < b) (λ z. natAbs z ≤ b) negsuc (upto b (λ i. i)) (λ i h. h) (each-upto b))
-    (each-map (λ i. i < suc b) (λ z. natAbs z ≤ b) pos (upto (suc b) (λ i. i)) (λ i h. omega arith) (each-upto (suc b)))
+    (each-map (λ i. i < b) (λ z. natAbs z ≤ b) negsuc (upto b (λ i. i)) (λ i h. h) (below b))
+    (each-map (λ i. i < suc b) (λ z. natAbs z ≤ b) pos (upto (suc b) (λ i. i)) (λ i h. omega arith) (below (suc b)))
+  where
+    below : (n : ℕ) → Each (λ i. i < n) (upto n (λ i. i))
+    below n = each-upto (λ i. i < n) (λ i. i) n (λ i h. h)

@@ -3,7 +3,8 @@ use Prim.Native.Nat.{ℕ}
 use Rattle.laws.specs.Outcome.{Outcome, refused, gives}
 use Rattle.fields.specs.declared.refusals.Refusal.{Refusal}
 use Rattle.fields.specs.declared.refusals.Refusal.the-variants.{Short, Kind, Size, Length, Bit, Sum, Instruction}
-use Rattle.fields.specs.declared.refusals.Refusal.the-variants.{Operand, Unwritten, Unset, Weightless, Position, Buffer, Multiplier}
+use Rattle.fields.specs.declared.refusals.Refusal.the-variants.{Operand, Unwritten, Unset, Weightless, Position, Buffer}
+use Rattle.fields.specs.declared.refusals.Refusal.the-variants.{Multiplier, Table, Step}
 use Rattle.fields.specs.declared.refusals.Written.{Written}
 use Rattle.fields.specs.declared.refusals.Written.the-variants as Written
 
@@ -22,6 +23,8 @@ numberOf Weightless = 11
 numberOf Position = 12
 numberOf Buffer = 13
 numberOf Multiplier = 14
+numberOf Table = 15
+numberOf Step = 16
 
 -- the cases of a writer's answer in 01's numbers
 abbrev pub written : Written → Outcome ℕ

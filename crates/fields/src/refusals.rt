@@ -18,6 +18,8 @@ pub enum Refusal {
     Position,
     Buffer,
     Multiplier,
+    Table,
+    Step,
 }
 
 // A refusal, or the number of bytes written.
@@ -45,5 +47,7 @@ pub fn number(refusal: Refusal) -> u32
         Refusal::Position => 12,
         Refusal::Buffer => 13,
         Refusal::Multiplier => 14,
+        Refusal::Table => 15,
+        Refusal::Step => 16,
     }
 }

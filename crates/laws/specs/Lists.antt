@@ -151,6 +151,10 @@ module _ {A : Type 0} (P : A → Type 0) where
   each-blocks f zero g = tt
   each-blocks f (suc n) g = each-append (blocks n f) (f n) (each-blocks f n (λ i l. g i (omega arith))) (g n (omega arith))
 
+  pub each-upto : (f : ℕ → A) (n : ℕ) → ((i : ℕ) → i < n → P (f i)) → Each P (upto n f)
+  unfolding upto
+  each-upto f n g = each-blocks (λ i. f i ∷ []) n (λ i l. (g i l, tt))
+
   pub each-take : (n : ℕ) (xs : List A) → Each P xs → Each P (take n xs)
   each-take zero xs p = tt
   each-take (suc n) [] p = tt

@@ -73,6 +73,16 @@ term-le zero i g h = absurd (omega arith)
 term-le (suc n) i g h =
     ⊎-elim (λ (q : i ≡ n). rw q (omega arith)) (λ (q : i < n). omega (arith, term-le n i g q)) (eq-or-lt-of-le (le-of-suc-le-suc h))
 
+-- and so are the terms before any place
+pub sum-front-le : (i n : ℕ) (g : ℕ → ℕ) → i ≤ n → sumTo i g ≤ sumTo n g
+unfolding sumTo
+sum-front-le i zero g h =
+    let z : i ≡ 0 = omega arith in
+    rw z (omega arith)
+sum-front-le i (suc n) g h =
+    ⊎-elim (λ (q : i ≡ suc n). rw q (omega arith)) (λ (q : i < suc n). omega (arith, sum-front-le i n g (le-of-suc-le-suc q)))
+    (eq-or-lt-of-le h)
+
 -- ---- tests, in the words of a loop that counts up and leaves at the first that passes
 pub any-none : (t : ℕ → Bool) → any 0 t ≡ false
 unfolding any

@@ -7,7 +7,8 @@ use native.Mathlib.Nat.{mul-one, pow-succ'}
 use native.Mathlib.Omega.{arith}
 use lib.ListN.{length, getD, length-append, length-map}
 use Rattle.laws.specs.Tests.{same}
-use Rattle.laws.specs.Lists.{Each, each-append, each-map, each-more}
+use Rattle.laws.specs.Sums.{sumTo}
+use Rattle.laws.specs.Lists.{Each, each-append, each-map, each-more, blocks, upto}
 
 -- s is a string of n bits
 pub record Bits (n : ℕ) (s : List ℕ) : Type 0 where
@@ -44,6 +45,11 @@ module _ {A : Type 0} where
   over-map f g [] = refl
   over-map f g (x ∷ xs) = ap (λ (n : ℕ). g (f x) + n) (over-map f g xs)
 
+  pub over-upto : (n : ℕ) (f : ℕ → A) (g : A → ℕ) → over (upto n f) g ≡ sumTo n (λ i. g (f i))
+  unfolding upto blocks over sumTo
+  over-upto zero f g = refl
+  over-upto (suc n) f g = over-append g (blocks n (λ i. f i ∷ [])) (f n ∷ []) ∙ omega (arith, over-upto n f g)
+
   pub over-same : (k : ℕ) (xs : List A) → over xs (λ x. k) ≡ length xs * k
   unfolding over
   over-same k [] = omega arith
@@ -56,6 +62,13 @@ module _ {A : Type 0} where
   unfolding over
   over-eq f g [] e = refl
   over-eq f g (x ∷ xs) e = ap₂ _+_ (e .0) (over-eq f g xs (e .1))
+
+  -- tests that agree where P holds, which it does throughout
+  pub count-each : (P : A → Type 0) (f g : A → Bool) (xs : List A) → Each P xs → ((x : A) → P x → f x ≡ g x) → count f xs ≡ count g xs
+  unfolding count
+  count-each P f g xs e same =
+      over-eq (λ x. one-if (f x)) (λ x. one-if (g x)) xs
+      (each-more P (λ x. one-if (f x) ≡ one-if (g x)) xs (λ x p. ap one-if (same x p)) e)
 
   -- terms that are equal throughout
   pub over-all : (f g : A → ℕ) (xs : List A) → ((x : A) → f x ≡ g x) → over xs f ≡ over xs g
@@ -137,5 +150,4 @@ pub over-bits : (n : ℕ) (f g : List ℕ → ℕ) → ((s : List ℕ) → Bits 
 over-bits n f g e = over-eq f g (strings n) (each-more (Bits n) (λ s. f s ≡ g s) (strings n) e (strings-bits n))
 
 pub count-eq : (n : ℕ) (f g : List ℕ → Bool) → ((s : List ℕ) → Bits n s → f s ≡ g s) → count f (strings n) ≡ count g (strings n)
-unfolding count
-count-eq n f g e = over-bits n (λ s. one-if (f s)) (λ s. one-if (g s)) (λ s b. ap one-if (e s b))
+count-eq n f g e = count-each (Bits n) f g (strings n) (strings-bits n) e

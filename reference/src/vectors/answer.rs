@@ -3,6 +3,7 @@
 
 use super::line::{Fields, Hash, Line, Malformed, Task};
 use crate::compiler::compile;
+use crate::cumulative::{export, import, lookup};
 use crate::draws::{draw, draw_signed};
 use crate::lanes::{samples, signed_samples, slice, MISS};
 use crate::machine::{resume, start, Run};
@@ -108,6 +109,13 @@ fn carry_out(task: Task, fields: &mut Fields) -> Result<Answer<Line>, Malformed>
             let program = long_program(fields)?;
             long_start(&program, &fields.words()?, fields.short_number()?)
         }
+        Task::Import => file(import(&fields.words()?, fields.size()?, fields.size()?)),
+        Task::Export => export(&fields.bytes()?, fields.size()?).map(|exported| {
+            let line = done().size(exported.table.len());
+            line.size(exported.columns).result(&exported.table)
+        }),
+        Task::Lookup => lookup(&fields.words()?, fields.size()?, fields.number()?)
+            .map(|sample| done().size(sample.unwrap_or(usize::from(MISS)))),
     })
 }
 
@@ -237,7 +245,7 @@ mod tests {
         assert_eq!(answer(&format!("e {file} {strings}")).unwrap(), "0 80");
         assert_eq!(answer(&format!("e {file} {}", &strings[2..])).unwrap(), "d");
         assert_eq!(answer("1 - 0").unwrap(), "1");
-        assert!(answer("15 00").is_err());
+        assert!(answer("18 00").is_err());
         assert!(answer("1 0").is_err());
     }
 
@@ -255,5 +263,28 @@ mod tests {
             answer("f - - - - 3 100000001 40").unwrap_err().0,
             "above 32 bits: 100000001"
         );
+    }
+
+    /// The rows 10, 01, 01 are the table 0, 2, 3, 4; without the last row, r = 4 is a miss.
+    #[test]
+    fn answers_lines_of_tables() {
+        let file = "0b00200003000200804040";
+        let numbers = [0, 2, 3, 4].map(|number| format!("{number:016x}"));
+        let (table, shorter) = (numbers.concat(), numbers[..3].concat());
+        let imported = answer(&format!("15 {table} 2 b")).unwrap();
+        assert_eq!(imported, format!("0 b {file}"));
+        assert_eq!(answer(&format!("15 {table} 2 a")).unwrap(), "d");
+        assert_eq!(answer(&format!("15 {table} 1 0")).unwrap(), "f");
+        let exported = answer(&format!("16 {file} 4")).unwrap();
+        assert_eq!(exported, format!("0 4 2 {table}"));
+        assert_eq!(answer(&format!("16 {file} 3")).unwrap(), "d");
+        assert_eq!(answer(&format!("17 {table} 2 4")).unwrap(), "0 2");
+        assert_eq!(answer(&format!("17 {shorter} 2 4")).unwrap(), "0 ff");
+        let any = format!("17 {table} 2 ffffffffffffffff");
+        assert_eq!(answer(&any).unwrap(), "3");
+        let step = format!("15 {} 2 b", numbers[0].clone() + &numbers[3]);
+        assert_eq!(answer(&step).unwrap(), "10");
+        assert_eq!(answer("15 - ffffffffffffffff 0").unwrap(), "3");
+        assert!(answer(&format!("17 {file} 2 4")).is_err());
     }
 }

@@ -91,6 +91,20 @@ pub fn combine(lists: [&[i16]; 4], first: u32, second: u32, results_lent: usize)
         .size(results_lent)
 }
 
+pub fn import(table: &[u64], columns: usize, file_lent: usize) -> Line {
+    let line = Line::new(Task::Import).array(table);
+    line.size(columns).size(file_lent)
+}
+
+pub fn export(file: &[u8], table_lent: usize) -> Line {
+    Line::new(Task::Export).array(file).size(table_lent)
+}
+
+pub fn lookup(table: &[u64], columns: usize, r: u64) -> Line {
+    let line = Line::new(Task::Lookup).array(table);
+    line.size(columns).number(r)
+}
+
 /// A matrix file is read, and what was read is written.
 pub fn rewrite(file: &[u8]) -> Line {
     Line::new(Task::Rewrite).array(file)

@@ -1,6 +1,7 @@
 //! Damaged files: every length, every field, every bit of small files, and two faults at once.
 
-use super::cases::{check, compile, draw, draw_signed, read, resume, rewrite, spent, start, walk};
+use super::cases::{check, compile, draw, draw_signed, export, read, resume, rewrite, spent};
+use super::cases::{start, walk};
 use super::line::Line;
 use super::sound::around;
 use crate::compiler::translate;
@@ -102,6 +103,7 @@ pub fn all_uses_of_matrix(file: &[u8], put: &mut dyn FnMut(Line)) {
     put(spent(file, &[]));
     put(compile(file, 0));
     put(rewrite(file));
+    put(export(file, 0));
 }
 
 /// A program file given to each operation that takes one, with nothing else in order.
@@ -124,6 +126,7 @@ pub fn thorough(put: &mut dyn FnMut(Line)) {
             put(walk(&damaged, &[0x7f, 0xff]));
             put(spent(&damaged, &[0x40; 128]));
             put(compile(&damaged, 0));
+            put(export(&damaged, 4));
         }
     }
     let three = translate(&Matrix::from_texts(&["10", "01", "01"])).encode();

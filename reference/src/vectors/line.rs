@@ -28,11 +28,14 @@ pub enum Task {
     Stops = 0x12,
     LongCheck = 0x13,
     LongStart = 0x14,
+    Import = 0x15,
+    Export = 0x16,
+    Lookup = 0x17,
 }
 
 impl Task {
     /// All of them.
-    pub const ALL: [Task; 20] = [
+    pub const ALL: [Task; 23] = [
         Task::Read,
         Task::Write,
         Task::Build,
@@ -53,6 +56,9 @@ impl Task {
         Task::Stops,
         Task::LongCheck,
         Task::LongStart,
+        Task::Import,
+        Task::Export,
+        Task::Lookup,
     ];
 
     /// The operation with this number.
@@ -75,6 +81,7 @@ impl Task {
             Task::Stops | Task::LongCheck | Task::LongStart => "vectors_runs",
             Task::Slice | Task::Samples | Task::SignedSamples => "vectors_lanes",
             Task::Draw | Task::DrawSigned | Task::Draws | Task::Combine => "vectors_lanes",
+            Task::Import | Task::Export | Task::Lookup => "vectors_tables",
         }
     }
 }

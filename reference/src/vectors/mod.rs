@@ -3,6 +3,7 @@
 
 pub mod answer;
 pub mod cases;
+mod cumulative;
 mod damaged;
 mod foreign;
 pub mod line;
@@ -30,11 +31,13 @@ pub fn each_given(scale: usize, mut visit: impl FnMut(&str)) {
     runs::fixed(&mut put);
     sound::fixed(&mut Random::new(SEED), &mut put);
     wide::fixed(&mut Random::new(SEED), &mut put);
+    cumulative::fixed(&mut Random::new(SEED), &mut put);
     if scale > 1 {
         damaged::thorough(&mut put);
         foreign::thorough(&mut put);
         runs::thorough(&mut put);
         wide::thorough(&mut put);
+        cumulative::thorough(&mut put);
     }
     for round in 1..=scale {
         let random = &mut Random::new(SEED + round as u64);
@@ -42,5 +45,6 @@ pub fn each_given(scale: usize, mut visit: impl FnMut(&str)) {
         runs::round(random, &mut put);
         damaged::round(random, &mut put);
         wide::round(random, &mut put);
+        cumulative::round(random, &mut put);
     }
 }

@@ -1,6 +1,7 @@
 //! 02, order 3, "Foreign file or short file": the files that it speaks of, given to every function that takes a file. The number that each
 //! must return is the one that stands there, and the reference must return it too.
 
+use crate::cumulative::export_on;
 use crate::lanes::{draw_on, draw_signed_on};
 use crate::matrices::{compile_on, read_on, spent_on, walk_on};
 use crate::programs::{check_on, resume_on, start_on, Words};
@@ -17,7 +18,7 @@ const FOREIGN: u32 = 2;
 type Call = fn(&mut Trial, &mut Random, &[u8]) -> u32;
 
 /// The functions that take a matrix file.
-const OF_MATRIX: [(&str, Call); 4] = [
+const OF_MATRIX: [(&str, Call); 5] = [
     ("read", |trial, random, file| {
         read_on(trial, random, file, 0)
     }),
@@ -29,6 +30,9 @@ const OF_MATRIX: [(&str, Call); 4] = [
     }),
     ("compile", |trial, random, file| {
         compile_on(trial, random, file, 0)
+    }),
+    ("export", |trial, random, file| {
+        export_on(trial, random, file, 0)
     }),
 ];
 

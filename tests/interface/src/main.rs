@@ -4,6 +4,7 @@
 
 #[path = "../../../include/corkhollow.rs"]
 mod corkhollow;
+mod cumulative;
 mod faults;
 mod foreign;
 mod inputs;
@@ -49,7 +50,7 @@ const fn operation(
     }
 }
 
-const OPERATIONS: [Operation; 16] = [
+const OPERATIONS: [Operation; 19] = [
     operation("read", matrices::read, &[1, 2, 3, 4, 5, 6, 13]),
     operation("write", matrices::write, &[3, 5, 6, 13]),
     operation("build", matrices::build, &[3, 11, 13]),
@@ -77,6 +78,9 @@ const OPERATIONS: [Operation; 16] = [
         &[1, 2, 3, 4, 5, 7, 8, 9, 10, 13],
     ),
     operation("combine", wide::combine, &[5, 13, 14]),
+    operation("import", cumulative::import, &[3, 13, 15, 16]),
+    operation("export", cumulative::export, &[1, 2, 3, 4, 5, 6, 13]),
+    operation("lookup", cumulative::lookup, &[3, 15, 16]),
 ];
 
 fn main() {
@@ -87,6 +91,7 @@ fn main() {
     numbers::compare();
     wrappers::compare();
     foreign::compare();
+    cumulative::compare();
     let stock = Stock::new(&mut Random::new(seed));
     let numbers: Vec<String> = (1..ANSWERS).map(|refusal| refusal.to_string()).collect();
     print_row("operation", "stack", "cases", "done", &numbers);

@@ -12,7 +12,7 @@ use reference::random::{self, Random};
 use reference::record::pack;
 
 /// A matrix file, sound or damaged, with the matrix that it was made of.
-fn some_file(random: &mut Random, stock: &Stock) -> (Vec<u8>, Matrix) {
+pub fn some_file(random: &mut Random, stock: &Stock) -> (Vec<u8>, Matrix) {
     let matrix = matrix(random, stock);
     let mut file = matrix.encode();
     some_faults(random, &mut file, of_matrix);

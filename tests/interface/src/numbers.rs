@@ -3,10 +3,10 @@
 use crate::corkhollow;
 use crate::trial::fail;
 use reference::refusal::{
-    BIT, BUFFER, INSTRUCTION, KIND, LENGTH, MULTIPLIER, OPERAND, POSITION, SHORT, SIZE, TOTAL,
-    UNSET, UNWRITTEN, WEIGHTLESS,
+    BIT, BUFFER, INSTRUCTION, KIND, LENGTH, MULTIPLIER, OPERAND, POSITION, SHORT, SIZE, STEP,
+    TABLE, TOTAL, UNSET, UNWRITTEN, WEIGHTLESS,
 };
-use reference::{lanes, lent, matrix, program, record, wide};
+use reference::{cumulative, lanes, lent, matrix, program, record, wide};
 
 extern "C" {
     static through_numbers: [u64; HEADER_NUMBERS];
@@ -15,11 +15,11 @@ extern "C" {
     fn through_matrix_length(rows: usize, columns: usize) -> usize;
 }
 
-/// The refusals and 0, eight limits, three misses, four lengths.
-const HEADER_NUMBERS: usize = REFUSALS.len() + 8 + 3 + 4;
+/// The refusals and 0, nine limits, three misses, five lengths.
+const HEADER_NUMBERS: usize = REFUSALS.len() + 9 + 3 + 5;
 
 /// The refusals and 0, by the reference.
-const REFUSALS: [u32; 15] = [
+const REFUSALS: [u32; 17] = [
     lent::DONE,
     SHORT,
     KIND,
@@ -35,6 +35,8 @@ const REFUSALS: [u32; 15] = [
     POSITION,
     BUFFER,
     MULTIPLIER,
+    TABLE,
+    STEP,
 ];
 
 /// The most bytes of an instruction: length, kind, three operands.
@@ -58,6 +60,7 @@ fn others() -> [(usize, usize); HEADER_NUMBERS - REFUSALS.len()] {
         (program::MOST_OUTPUTS, corkhollow::OUTPUTS),
         (program::MOST_INSTRUCTIONS, corkhollow::INSTRUCTIONS),
         (multiplier as usize, corkhollow::MOST_MULTIPLIER as usize),
+        (cumulative::MOST_TABLE_COLUMNS, corkhollow::TABLE_COLUMNS),
         (miss, corkhollow::MISS as usize),
         (signed_miss, corkhollow::SIGNED_MISS as usize),
         (combined_miss as usize, corkhollow::COMBINED_MISS as usize),
@@ -65,6 +68,7 @@ fn others() -> [(usize, usize); HEADER_NUMBERS - REFUSALS.len()] {
         (matrix_bytes, corkhollow::MOST_MATRIX_BYTES),
         (PROGRAM_BYTES, corkhollow::MOST_PROGRAM_BYTES),
         (string_bytes, corkhollow::MOST_STRING_BYTES),
+        (cumulative::MOST_NUMBERS, corkhollow::MOST_TABLE_NUMBERS),
     ]
 }
 

@@ -56,4 +56,10 @@ tables! {
     combine: through_combine, corkhollow_combine
         (*const i16, usize, *const i16, usize, *const i16, usize, *const i16, usize,
          u32, u32, *mut i32, usize);
+    import: through_import, corkhollow_import
+        (*const u64, usize, usize, *mut u8, usize, *mut usize);
+    export: through_export, corkhollow_export
+        (*const u8, usize, *mut u64, usize, *mut usize, *mut usize);
+    lookup: through_lookup, corkhollow_lookup
+        (*const u64, usize, usize, u64, *mut usize);
 }

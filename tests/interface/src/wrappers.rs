@@ -62,6 +62,7 @@ pub fn compare() {
     both("combine", |sound| {
         combine(if sound { 1_000 } else { 1_001 })
     });
+    tables(&file);
     overlaps();
     words();
 }
@@ -73,6 +74,15 @@ fn matrices(sound: &Matrix, file: &[u8]) {
     });
     both("build", |sound| {
         build(if sound { &[1, 5, 3] } else { &[0, 0, 0] })
+    });
+}
+
+fn tables(file: &[u8]) {
+    both("import", |sound| import(if sound { 2 } else { 1 }));
+    both("export", |sound| export(file, if sound { 6 } else { 3 }));
+    both("lookup", |sound| {
+        let miss = lookup(4, 2);
+        lookup(if sound { 3 } else { 5 }, 2) && miss
     });
 }
 
@@ -295,6 +305,37 @@ fn combine_on([x1, x2, x3, x4]: [&[i16]; 4], first: u32) -> bool {
     let answer = binding::combine(x1, x2, x3, x4, first, 11, &mut left);
     let returned = lent::combine(x1, x2, x3, x4, first, 11, &mut wanted);
     same("combine", (answer, left), (returned, (), wanted))
+}
+
+/// The rows 10, 01 and a miss.
+const TABLE: [u64; 3] = [0, 2, 3];
+
+fn import(columns: usize) -> bool {
+    let (mut left, mut wanted) = ([7; 20], [7; 20]);
+    let mut length = 0;
+    let answer = binding::import(&TABLE, columns, &mut left);
+    let returned = lent::import(&TABLE, columns, &mut wanted, &mut length);
+    same("import", (answer, left), (returned, length, wanted))
+}
+
+fn export(file: &[u8], lent: usize) -> bool {
+    let (mut left, mut wanted) = (vec![7; lent], vec![7; lent]);
+    let (mut numbers, mut columns) = (0, 0);
+    let answer = binding::export(file, &mut left);
+    let returned = lent::export(file, &mut wanted, &mut numbers, &mut columns);
+    same(
+        "export",
+        (answer, left),
+        (returned, (numbers, columns), wanted),
+    )
+}
+
+fn lookup(r: u64, columns: usize) -> bool {
+    let mut sample = 0;
+    let returned = lent::lookup(&TABLE, columns, r, &mut sample);
+    let found = (sample != usize::from(binding::MISS)).then_some(sample);
+    let answer = binding::lookup(&TABLE, columns, r);
+    same("lookup", (answer, ()), (returned, found, ()))
 }
 
 /// Buffers that are only read may overlap: here a file is also the string, the strings or the input words that go with it, and a list of

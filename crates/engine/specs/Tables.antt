@@ -1,0 +1,147 @@
+-- 02, order 4: each sample comes from as many numbers of 1 to 2^n, looked up in a table, as the compiled program of the imported matrix has
+-- strings for it, and as many numbers miss as strings do. Assumes nothing.
+use Prim.Native.Nat.{ℕ, _-_, _^_, _≤_, _<_}
+use mathlib.Core.Path.{_≡_, refl, sym, ap, _∙_}
+use mathlib.Core.Bool.{Bool, true, false}
+use mathlib.Core.List.{List}
+use native.Mathlib.Omega.{arith}
+use borrow.Author.Tests.{le-ltb, ltb-true, ltb-false, eq-eqb, ne-eqb}
+use lib.Dec.{ltb}
+use lib.ListN.{length}
+use Rattle.laws.specs.Tests.{never}
+use Rattle.laws.specs.Outcome.{gives, passed, gives-inj}
+use Rattle.files.specs.Matrix.{Matrix, total}
+use Rattle.files.specs.Files.{fileLength, matrixFile, matrixOf}
+use Rattle.files.specs.RoundTrip.{read-accepted}
+use Rattle.walk.specs.Walk.{Answer, sample, missed}
+use Rattle.walk.specs.Strings.{Bits, strings, count, count-each}
+use Rattle.cumulative.specs.Tables.{most-bits, rowsOf, lastOf, difference, holds, imported, importOf, sums, found, lookupOf}
+use Rattle.cumulative.specs.Taken.{Cumulative}
+use Rattle.cumulative.specs.Importing.{imported-row, imported-total, import-iff, import-is}
+use Rattle.cumulative.specs.Lookup.{holds-iff, found-iff, missed-iff, lookup-iff}
+use Rattle.cumulative.specs.RoundTrip.{sums-rows, sums-difference, sums-cumulative, sums-imported}
+use Rattle.cumulative.specs.Counts.{numbersTo, numbers-within, holds-count, above-count}
+use Rattle.compiler.specs.Translation.{program, compiled, compileOf}
+use Rattle.engine.specs.Given.{Choice, Fair, given, says, says-miss}
+use Rattle.engine.specs.Demand3.{demand-3-samples, demand-3-misses}
+
+-- ---- a lookup, in the words in which demand 3 counts
+said : (v : ℕ) (a : Answer) → a ≡ sample v → says v (gives a) ≡ true
+unfolding says
+said v a e = rw e (eq-eqb v v refl)
+
+not-said : (v : ℕ) (a : Answer) → (a ≡ sample v → ⊥) → says v (gives a) ≡ false
+unfolding says
+not-said v (sample u) ne = ne-eqb u v (λ e. ne (ap sample e))
+not-said v missed ne = refl
+
+miss-said : (a : Answer) → a ≡ missed → says-miss (gives a) ≡ true
+unfolding says-miss
+miss-said a e = rw e
+
+not-missed : (a : Answer) → (a ≡ missed → ⊥) → says-miss (gives a) ≡ false
+unfolding says-miss
+not-missed (sample u) ne = refl
+not-missed missed ne = absurd (ne refl)
+
+module _ (T : List ℕ) (n : ℕ) (ok : Cumulative T n) (r : ℕ) (z : 1 ≤ r) (top : r ≤ 2 ^ n) where
+  looks : lookupOf T n r ≡ gives (found T r)
+  looks = lookup-iff T n r (found T r) .1 (ok, z, top, refl)
+
+  says-holds : (v : ℕ) → v < rowsOf T → says v (lookupOf T n r) ≡ holds T r v
+  says-holds v h = ap (says v) looks ∙ go (holds T r v) refl
+    where
+      go : (b : Bool) → holds T r v ≡ b → says v (gives (found T r)) ≡ b
+      go true e = said v (found T r) (found-iff T n ok r z v .1 (holds-iff T r v h .0 e))
+      go false e = not-said v (found T r) (λ q. never (sym e ∙ holds-iff T r v h .1 (found-iff T n ok r z v .0 q)))
+
+  misses-above : says-miss (lookupOf T n r) ≡ ltb (lastOf T) r
+  misses-above = ap says-miss looks ∙ go (ltb (lastOf T) r) refl
+    where
+      go : (b : Bool) → ltb (lastOf T) r ≡ b → says-miss (gives (found T r)) ≡ b
+      go true e = miss-said (found T r) (missed-iff T n ok r z .1 (ltb-true (lastOf T) r e))
+      go false e = not-missed (found T r) (λ q. omega (arith, missed-iff T n ok r z .0 q, ltb-false (lastOf T) r e))
+
+-- ---- over the numbers 1 to 2^n
+module _ (T : List ℕ) (n : ℕ) (ok : Cumulative T n) where
+  -- sample v comes up as often as the difference of neighbours says
+  pub lookup-count : (v : ℕ) → v < rowsOf T → count (λ r. says v (lookupOf T n r)) (numbersTo (2 ^ n)) ≡ difference T v
+  lookup-count v h =
+      count-each (λ r. (1 ≤ r) × (r ≤ 2 ^ n)) (λ r. says v (lookupOf T n r)) (λ r. holds T r v) (numbersTo (2 ^ n)) (numbers-within (2 ^ n))
+      (λ r w. says-holds T n ok r (w .0) (w .1) v h) ∙
+      holds-count T n ok v h
+
+  -- and all that is above the last number misses
+  pub lookup-misses : count (λ r. says-miss (lookupOf T n r)) (numbersTo (2 ^ n)) ≡ 2 ^ n - lastOf T
+  lookup-misses =
+      count-each (λ r. (1 ≤ r) × (r ≤ 2 ^ n)) (λ r. says-miss (lookupOf T n r)) (λ r. ltb (lastOf T) r) (numbersTo (2 ^ n))
+      (numbers-within (2 ^ n)) (λ r w. misses-above T n ok r (w .0) (w .1)) ∙
+      above-count T n ok
+
+-- ---- a table, the file that it imports as, the program that this compiles to, and lane, other lanes, earlier contents and budget chosen
+-- anew for each string of n bits
+compiles-to : (file : List ℕ) (space : ℕ) (code : List ℕ) (M : Matrix) → matrixOf file ≡ gives M → compileOf file space ≡ gives code →
+    compiled M ≡ code
+unfolding compileOf
+compiles-to file space code M e c = gives-inj (passed 13 (ltb space (length (compiled M))) _ code (rw e at c) .1)
+
+module _ (T : List ℕ) (n room space : ℕ) (file code : List ℕ) (i : importOf T n room ≡ gives file) (c : compileOf file space ≡ gives code)
+    (choose : List ℕ → Choice) (fair : (s : List ℕ) → Bits n s → Fair (program (imported T n)) s (choose s)) where
+  ok : Cumulative T n
+  ok = import-iff T n room file .0 i .0
+
+  read : matrixOf file ≡ gives (imported T n)
+  read = import-is T n room file i
+
+  is : compiled (imported T n) ≡ code
+  is = compiles-to file space code (imported T n) read c
+
+  -- sample v comes from as many numbers as strings
+  pub samples-alike : (v : ℕ) → v < rowsOf T →
+      count (λ r. says v (lookupOf T n r)) (numbersTo (2 ^ n)) ≡ count (λ s. says v (given code (choose s))) (strings n)
+  unfolding imported
+  samples-alike v h =
+      rw (← is)
+      (lookup-count T n ok v h ∙
+      sym (demand-3-samples file (imported T n) read choose fair v h ∙ imported-row T n ok v h))
+
+  -- and as many numbers miss as strings
+  pub misses-alike :
+      count (λ r. says-miss (lookupOf T n r)) (numbersTo (2 ^ n)) ≡ count (λ s. says-miss (given code (choose s))) (strings n)
+  unfolding imported
+  misses-alike =
+      rw (← is)
+      (lookup-misses T n ok ∙
+      sym (demand-3-misses file (imported T n) read choose fair ∙ ap (λ (t : ℕ). 2 ^ n - t) (imported-total T n ok)))
+
+-- ---- every table that lookup takes has such a file and such a program, with any room that they fit in
+pub looked-compiles : (T : List ℕ) (n r : ℕ) (a : Answer) (room space : ℕ) → lookupOf T n r ≡ gives a → fileLength (rowsOf T) n ≤ room →
+    length (compiled (imported T n)) ≤ space →
+    (file : List ℕ) × (importOf T n room ≡ gives file) × (compileOf file space ≡ gives (compiled (imported T n)))
+unfolding compileOf
+looked-compiles T n r a room space l h k =
+    let ok = lookup-iff T n r a .0 l .0 in
+    let i = import-iff T n room (matrixFile (imported T n)) .1 (ok, h, refl) in
+    let read = import-is T n room (matrixFile (imported T n)) i in
+    (matrixFile (imported T n), i, rw (read, le-ltb space (length (compiled (imported T n))) k))
+
+-- ---- and of the table that a matrix file exports as: the program of that file
+module _ (file : List ℕ) (M : Matrix) (e : matrixOf file ≡ gives M) (narrow : M .columns ≤ most-bits) (choose : List ℕ → Choice)
+    (fair : (s : List ℕ) → Bits (M .columns) s → Fair (program M) s (choose s)) where
+  pub exported-alike : (v : ℕ) → v < M .rows →
+      count (λ r. says v (lookupOf (sums M) (M .columns) r)) (numbersTo (2 ^ M .columns)) ≡
+      count (λ s. says v (given (compiled M) (choose s))) (strings (M .columns))
+  exported-alike v h =
+      let ok = sums-cumulative M (read-accepted file M e) narrow in
+      lookup-count (sums M) (M .columns) ok v (omega (arith, sums-rows M)) ∙
+      (sums-difference M v h ∙ sym (demand-3-samples file M e choose fair v h))
+
+  pub exported-misses : count (λ r. says-miss (lookupOf (sums M) (M .columns) r)) (numbersTo (2 ^ M .columns)) ≡
+      count (λ s. says-miss (given (compiled M) (choose s))) (strings (M .columns))
+  exported-misses =
+      let a = read-accepted file M e in
+      let ok = sums-cumulative M a narrow in
+      lookup-misses (sums M) (M .columns) ok ∙
+      (ap (λ (t : ℕ). 2 ^ M .columns - t)
+      (sym (imported-total (sums M) (M .columns) ok) ∙ ap total (sums-imported M a narrow)) ∙
+      sym (demand-3-misses file M e choose fair))
