@@ -263,7 +263,16 @@ uint32_t corkhollow_combine(const int16_t *x1, size_t x1_length,
 /*
  * Imports a cumulative table, of 2 to 129 numbers for 1 to 63 columns: writes the matrix file of which row v is number v + 1 less number v,
  * and tells its length. The first number is 0, none is below the one before it, and the last is at most 2^columns. What is left to
- * 2^columns is what misses.
+ * 2^columns is what misses. For signed use row 0 is the share of 0, and row v that of v and -v together.
+ *
+ * Number v is how many of the numbers 1 to 2^columns give a sample below v. Tables are kept in other ways too, and are to be made one of
+ * these, since some are taken as they stand and give other shares:
+ * - searched for T[s] <= x < T[s+1] with x from 0: it is this table, and r is x + 1;
+ * - without the 0: put it in front;
+ * - with the largest x of each sample, x from 0, so that the last number is 2^columns - 1: add 1 to each, then put 0 in front;
+ * - with the shares above each value: take each from 2^columns, and put 0 in front and 2^columns behind;
+ * - of 64 bits and more: divide each number by a power of two so that 63 are left, and make the last 2^63 where nothing is to miss.
+ *
  * Refusals, in the order tried: 3 for `table_length` or the columns; 15 for a first number that is not 0, one below the one before it, or a
  * last above 2^columns; 16 for a difference of 2^columns; 13 for `file`.
  */
@@ -287,9 +296,9 @@ uint32_t corkhollow_export(const uint8_t *file, size_t file_length,
  * same bits.
  *
  * r must be uniform over 1 to 2^columns: take the number of `columns` random bits and add 1. Numbers from 0 to 2^columns - 1 are off by
- * one: 0 is refused, and 2^columns never comes, so that the last sample, or the miss, has one share less than the table says. How long it
- * takes depends on r only in whether r is in range and whether it misses: r is compared with every number, and nothing is chosen by what
- * comes of it. The table, which is no secret, is checked anew on every call.
+ * one: 0 is refused, and 2^columns never comes, so that the miss, or the last sample that has a share, has one less than the table says.
+ * r is as secret as the sample. It is compared with every number, and no comparison decides what is done next, but whether r is in range
+ * and, at the end, whether it misses. The table, which is no secret, is checked anew on every call, and how long that takes depends on it.
  * Refusals, in the order tried: 3 for `table_length`, the columns, or r outside 1 to 2^columns; 15 and 16 as for corkhollow_import.
  */
 uint32_t corkhollow_lookup(const uint64_t *table, size_t table_length,

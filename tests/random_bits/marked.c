@@ -2,7 +2,7 @@
  * Under valgrind's memcheck: marks strings, words, outputs, sign, signed samples and the numbers that are looked up as undefined and runs
  * each operation. memcheck counts every jump and every address that depends on an undefined bit: there must be none, but in the operations
  * that choose by the random bits, in which there must be some, in combining, in which there must be one, whether it refuses the lists, and
- * in looking up, in which there may be three: whether the number is too small, too large, or misses. What an operation leaves must be
+ * in looking up, in which there may be two: whether the number is in range, and whether it misses. What an operation leaves must be
  * undefined in turn, so that it did work on the marked bits.
  * usage: marked COLUMNS
  */

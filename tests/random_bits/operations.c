@@ -71,9 +71,9 @@ static void lookup(const struct batch *b) { refused |= corkhollow_lookup(table, 
 static void lookup_miss(const struct batch *b) { refused |= corkhollow_lookup(table, numbers, table_columns, b->miss, &sample); }
 
 /*
- * Combining chooses once, when it has looked at all entries: whether they are refused. Looking up chooses whether the number is too small,
- * whether it is too large, and whether it misses: a search by halves would choose seven times more. Of a sample the lowest byte depends on
- * the number, and for a number that misses none.
+ * Combining chooses once, when it has looked at all entries: whether they are refused. Looking up chooses whether the number is in range,
+ * and may choose whether it misses: a search by halves would choose seven times more. Of a sample the lowest byte depends on the number,
+ * and for a number that misses none.
  */
 struct operation operations[OPERATIONS] = {
     {"start", start, 0, 0, outputs, 0},
@@ -84,8 +84,8 @@ struct operation operations[OPERATIONS] = {
     {"draw", draw, 0, 0, samples, sizeof samples},
     {"draw_signed", draw_signed, 0, 0, signed_samples, sizeof signed_samples},
     {"combine", combine, 1, 1, results, sizeof results},
-    {"lookup", lookup, 1, 3, &sample, 1},
-    {"lookup, misses", lookup_miss, 1, 3, NULL, 0},
+    {"lookup", lookup, 1, 2, &sample, 1},
+    {"lookup, misses", lookup_miss, 1, 2, NULL, 0},
     {"slice, spare bits", slice_spare, 1, MANY, NULL, 0},
     {"walk", walk, 1, MANY, NULL, 0},
     {"spent", spent, 1, MANY, NULL, 0},

@@ -3,13 +3,14 @@ use Prim.Native.Nat.{ℕ, _+_, _*_, _^_, _≤_, _<_}
 use mathlib.Core.Path.{_≡_, ap, _∙_, sym}
 use mathlib.Core.List.{List}
 use native.Mathlib.Omega.{arith}
-use borrow.Author.Tests.{lt-ltb, le-ltb}
+use borrow.Author.Tests.{lt-ltb, le-ltb, ltb-false}
+use lib.Dec.{ltb}
 use lib.ListN.{drop}
 use lib.Pow.{pow-mono}
 use Rattle.laws.specs.Sums.{sumTo, sum-eq}
 use Rattle.laws.specs.Digits.{number, number-shift}
 use Rattle.laws.specs.Lists.{upto, upto-eq, length-upto}
-use Rattle.laws.specs.Outcome.{refused, gives, mapped, mapped-gives, mapped-refused}
+use Rattle.laws.specs.Outcome.{refused, gives, mapped, passed, gives-inj, mapped-gives, mapped-refused}
 use Rattle.fields.specs.Fields.{bitOf, width}
 use Rattle.files.specs.Matrix.{Matrix, Sizes, sizes, bit, p, total}
 use Rattle.files.specs.Files.{matrixOf}
@@ -70,6 +71,15 @@ module _ (file : List ℕ) (room : ℕ) where
       exportOf file room ≡ gives (exported M)
   unfolding exportOf
   export-room M e h l = rw (e, le-ltb most-bits (M .columns) h, le-ltb room (M .rows + 1) l)
+
+  -- and of no other matrix is there a table
+  pub export-says : (t : Table) → exportOf file room ≡ gives t → (M : Matrix) → matrixOf file ≡ gives M →
+      (M .columns ≤ most-bits) × (t ≡ exported M)
+  unfolding exportOf
+  export-says t x M e =
+      let c3 = passed 3 (ltb most-bits (M .columns)) _ t (rw e at x) in
+      let c13 = passed 13 (ltb room (M .rows + 1)) _ t (c3 .1) in
+      (ltb-false _ _ (c3 .0), sym (gives-inj (c13 .1)))
 
   module _ (s : Sizes) (e : gives s ≡ mapped sizes (matrixOf file)) where
     pub export-wide : most-bits < s .columns → exportOf file room ≡ refused 3

@@ -1,5 +1,5 @@
 -- Import: the ways through its checks, and what is imported, an accepted matrix whose rows are the differences. Assumes nothing.
-use Prim.Native.Nat.{ℕ, _+_, _≤_, _<_}
+use Prim.Native.Nat.{ℕ, _+_, _-_, _≤_, _<_}
 use mathlib.Core.Path.{_≡_, sym, _∙_}
 use mathlib.Core.Bool.{true, false}
 use mathlib.Core.List.{List}
@@ -9,18 +9,18 @@ use borrow.Author.Tests.{le-ltb, ltb-false}
 use lib.Dec.{ltb}
 use lib.ListN.{length}
 use Rattle.laws.specs.Sums.{sum-eq}
-use Rattle.laws.specs.Digits.{number-shift, number-digit, digit, digit-le}
+use Rattle.laws.specs.Digits.{digit, digit-le}
 use Rattle.laws.specs.Lists.{blocks}
 use Rattle.laws.specs.Lay.{layAt}
 use Rattle.laws.specs.Outcome.{refused, gives, mapped, passed, then-gives, gives-inj}
 use Rattle.fields.specs.Limits.{most-columns, inside}
 use Rattle.fields.specs.Fields.{packed}
-use Rattle.files.specs.Matrix.{Accepted, sizesOutside, bit, p, total, most-rows}
+use Rattle.files.specs.Matrix.{Matrix, Accepted, sizesOutside, bit, p, total, most-rows}
 use Rattle.files.specs.Files.{fileLength, matrixFile, matrixOf, writeHeaderOf}
-use Rattle.files.specs.Matrices.{tabled-whole, tabled-bit, tabled-bits}
+use Rattle.files.specs.Matrices.{tabled-whole, tabled-bit, tabled-bits, numbered-row}
 use Rattle.files.specs.Writing.{with-header, Head, Wrote, ends-unheaded, ends-headed}
 use Rattle.files.specs.RoundTrip.{write-read}
-use Rattle.cumulative.specs.Tables.{sizesUnfit, rowsOf, lastOf, difference, numbersOf, imported, importOf}
+use Rattle.cumulative.specs.Tables.{sizesUnfit, entry, rowsOf, lastOf, difference, numbersOf, imported, importOf}
 use Rattle.cumulative.specs.Taken.{Cumulative, summed, sized, taken-iff}
 
 -- ---- what is imported
@@ -32,10 +32,8 @@ module _ (T : List ℕ) (n : ℕ) where
   module _ (ok : Cumulative T n) where
     -- row v, as a number, is the difference of neighbours
     pub imported-row : (v : ℕ) → v < rowsOf T → p (imported T n) v ≡ difference T v
-    unfolding p imported
-    imported-row v h =
-        number-shift (bit (imported T n) v) (digit n (difference T v)) 0 0 n (λ i l. imported-bit v (0 + i) h (omega arith)) ∙
-        number-digit n (difference T v) (ok .fits v h)
+    unfolding imported
+    imported-row v h = numbered-row (rowsOf T) n (difference T) v h (ok .fits v h)
 
     -- T, the sum of the rows, is the last number
     pub imported-total : total (imported T n) ≡ lastOf T
@@ -48,10 +46,10 @@ module _ (T : List ℕ) (n : ℕ) where
     unfolding imported
     imported-accepted =
         record {
-          some-rows = omega (arith, ok .some);
-          few-rows = omega (arith, ok .few);
-          some-columns = ok .some-bits;
-          few-columns = omega (arith, ok .few-bits);
+          some-rows = omega (arith, ok .sizes .some);
+          few-rows = omega (arith, ok .sizes .few);
+          some-columns = ok .sizes .some-bits;
+          few-columns = omega (arith, ok .sizes .few-bits);
           whole = tabled-whole (rowsOf T) n (λ v. digit n (difference T v));
           bits = tabled-bits (rowsOf T) n (λ v. digit n (difference T v)) (λ v. digit-le n (difference T v));
           sum = omega (arith, imported-total, ok .last);
@@ -97,9 +95,9 @@ module _ (T : List ℕ) (n : ℕ) (file : List ℕ) (a : sizesUnfit (length T) n
 
 -- ---- import takes exactly the cumulative tables, where their file has room
 module _ (T : List ℕ) (n room : ℕ) (file : List ℕ) where
-  said : importOf T n room ≡ gives file → Cumulative T n × (fileLength (rowsOf T) n ≤ room) × (matrixFile (imported T n) ≡ file)
+  import-says : importOf T n room ≡ gives file → Cumulative T n × (fileLength (rowsOf T) n ≤ room) × (matrixFile (imported T n) ≡ file)
   unfolding importOf
-  said e =
+  import-says e =
       let c3 = passed 3 (sizesUnfit (length T) n) _ file e in
       let c15 = then-gives (numbersOf T n) _ file (c3 .1) in
       let c13 = passed 13 (ltb room (fileLength (rowsOf T) n)) _ file (c15 .1) in
@@ -109,12 +107,22 @@ module _ (T : List ℕ) (n room : ℕ) (file : List ℕ) where
       (Cumulative T n × (fileLength (rowsOf T) n ≤ room) × (matrixFile (imported T n) ≡ file))
   unfolding importOf
   import-iff = (
-    said,
+    import-says,
     (λ p. let t = taken-iff T n .1 (p .0) in rw (t .0, t .1, le-ltb room (fileLength (rowsOf T) n) (p .1), p .2)),
   )
 
   -- and what it writes is an accepted file, that of the matrix of the differences
   pub import-is : importOf T n room ≡ gives file → matrixOf file ≡ gives (imported T n)
   import-is e =
-      let s = said e in
+      let s = import-says e in
       rw (← s .2) (write-read (imported T n) (imported-accepted T n (s .0)))
+
+  -- of which row v, as a number, takes number v to the next
+  pub import-row : (v : ℕ) → importOf T n room ≡ gives file → (M : Matrix) → matrixOf file ≡ gives M → v < rowsOf T →
+      entry T v + p M v ≡ entry T (v + 1)
+  unfolding difference
+  import-row v e M q h =
+      let ok = import-says e .0 in
+      let same : imported T n ≡ M = gives-inj (sym (import-is e) ∙ q) in
+      let row : p M v ≡ difference T v = rw (← same) (imported-row T n ok v h) in
+      omega (arith, row, ok .rises .next v h)

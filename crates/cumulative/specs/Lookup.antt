@@ -1,12 +1,12 @@
 -- Lookup: the s that it gives is the only one with T[s] < r and r ≤ T[s+1], and is found by counting. Assumes nothing.
 use Prim.Native.Nat.{ℕ, zero, suc, _+_, _-_, _^_, _≤_, _<_, min}
 use mathlib.Core.Path.{_≡_, refl, sym, ap, _∙_, subst}
-use mathlib.Core.Bool.{Bool, true, false, cond}
+use mathlib.Core.Bool.{Bool, true, false, cond, _&&_}
 use mathlib.Core.List.{List}
 use mathlib.Core.Logic.{_↔_, _⊎_, inl, inr, ⊎-elim}
 use native.Mathlib.Omega.{arith}
 use native.Mathlib.Numerals.{add-one}
-use borrow.Author.Tests.{eq-eqb, ne-eqb, lt-ltb, le-ltb, le-leb, ltb-true, leb-true}
+use borrow.Author.Tests.{eq-eqb, ne-eqb, lt-ltb, le-ltb, le-leb, lt-leb, ltb-true, leb-true}
 use lib.Dec.{eqb, ltb, leb}
 use lib.ListN.{length}
 use mir.Val.{boolByte}
@@ -78,14 +78,14 @@ module _ (T : List ℕ) (up : Rising T) (r : ℕ) where
       crossed s t a b l = omega (arith, a .upto, b .above, later T up (s + 1) t (omega arith) (omega (arith, b .row)))
 
   -- the s that holds r is found
-  pub found-one : (s : ℕ) → Holds T r s → found T r ≡ sample s
+  found-one : (s : ℕ) → Holds T r s → found T r ≡ sample s
   unfolding found
   found-one s q =
       the-one (rowsOf T) s (holds T r) (q .row) (holds-iff T r s (q .row) .1 q)
       (λ t l e. only-one t s (holds-iff T r t l .0 e) q)
 
   -- above the last number there is none
-  pub found-none : lastOf T < r → found T r ≡ missed
+  found-none : lastOf T < r → found T r ≡ missed
   unfolding found
   found-none h =
       no-one (rowsOf T) (holds T r)
@@ -107,12 +107,16 @@ pub one-is : (b : Bool) → (boolByte b ≡ one-if b) × (boolByte b ≤ 1)
 one-is true = (refl, omega arith)
 one-is false = (refl, omega arith)
 
-ones-to : (m s : ℕ) → sumTo m (λ v. one-if (ltb v s)) ≡ min s m
+-- of the numbers 1 to N those above a and up to b
+pub ones-between : (N a b : ℕ) → sumTo N (λ i. one-if (ltb a (i + 1) && leb (i + 1) b)) ≡ min b N - min a N
 unfolding sumTo
-ones-to zero s = omega arith
-ones-to (suc m) s =
-    ⊎-elim (λ (l : m < s). rw (lt-ltb m s l) (omega (arith, ones-to m s))) (λ (l : s ≤ m). rw (le-ltb m s l) (omega (arith, ones-to m s)))
-    (lt-or-ge m s)
+ones-between zero a b = omega arith
+ones-between (suc N) a b =
+    ⊎-elim
+    (λ (l : a < N + 1).
+    ⊎-elim (λ (k : b < N + 1). rw (lt-ltb a (N + 1) l, lt-leb (N + 1) b k) (omega (arith, ones-between N a b)))
+    (λ (k : N + 1 ≤ b). rw (lt-ltb a (N + 1) l, le-leb (N + 1) b k) (omega (arith, ones-between N a b))) (lt-or-ge b (N + 1)))
+    (λ (l : N + 1 ≤ a). rw (le-ltb a (N + 1) l) (omega (arith, ones-between N a b))) (lt-or-ge a (N + 1))
 
 module _ (T : List ℕ) (up : Rising T) (r : ℕ) where
   -- the first s of them, and no other
@@ -120,19 +124,19 @@ module _ (T : List ℕ) (up : Rising T) (r : ℕ) where
       below T r ≡ s
   unfolding below
   counted s h a b =
-      sum-eq (rowsOf T) (λ v. one-if (ltb (entry T (v + 1)) r)) (λ v. one-if (ltb v s))
-      (λ v l. ap one-if
-      (⊎-elim (λ (k : v < s). lt-ltb (entry T (v + 1)) r (a v k) ∙ sym (lt-ltb v s k))
-      (λ (k : s ≤ v). le-ltb (entry T (v + 1)) r (b v k l) ∙ sym (le-ltb v s k)) (lt-or-ge v s))) ∙
-      omega (arith, ones-to (rowsOf T) s)
+      sum-eq (rowsOf T) (λ v. one-if (ltb (entry T (v + 1)) r)) (λ v. one-if (ltb 0 (v + 1) && leb (v + 1) s))
+      (λ v l. let z = lt-ltb 0 (v + 1) (omega arith) in
+      ⊎-elim (λ (k : v < s). rw (lt-ltb (entry T (v + 1)) r (a v k), z, le-leb (v + 1) s (omega arith)))
+      (λ (k : s ≤ v). rw (le-ltb (entry T (v + 1)) r (b v k l), z, lt-leb (v + 1) s (omega arith))) (lt-or-ge v s)) ∙
+      (ones-between (rowsOf T) 0 s ∙ omega arith)
 
-  pub below-row : (s : ℕ) → Holds T r s → below T r ≡ s
+  below-row : (s : ℕ) → Holds T r s → below T r ≡ s
   below-row s q =
       counted s (omega (arith, q .row))
       (λ v l. omega (arith, q .above, later T up (v + 1) s (omega arith) (omega (arith, q .row))))
       (λ v l k. omega (arith, q .upto, later T up (s + 1) (v + 1) (omega arith) (omega arith)))
 
-  pub below-all : lastOf T < r → below T r ≡ rowsOf T
+  below-all : lastOf T < r → below T r ≡ rowsOf T
   below-all h =
       counted (rowsOf T) (omega arith) (λ v l. omega (arith, h, later T up (v + 1) (rowsOf T) (omega arith) (omega arith)))
       (λ v l k. absurd (omega arith))
@@ -214,3 +218,17 @@ module _ (T : List ℕ) (n r : ℕ) where
         (taken-iff T n .0 (c3 .0, c15 .0), w .0, w .1, gives-inj (c15 .1))),
     (λ p. let t = taken-iff T n .1 (p .0) in rw (t .0, t .1, inside (2 ^ n) r (p .1) (p .2), p .3)),
   )
+
+  -- the s that it gives is the only one with T[s] < r and r ≤ T[s+1]
+  pub lookup-only : (s : ℕ) → lookupOf T n r ≡ gives (sample s) → Holds T r s × ((t : ℕ) → Holds T r t → t ≡ s)
+  lookup-only s e =
+      let l = lookup-iff (sample s) .0 e in
+      let q = found-iff T n (l .0) r (l .1) s .0 (l .3) in
+      (q, λ t h. only-one T (l .0 .rises) r t s h q)
+
+  -- and it misses exactly above the last number
+  pub lookup-misses-iff : Cumulative T n → 1 ≤ r → r ≤ 2 ^ n → (lookupOf T n r ≡ gives missed) ↔ (lastOf T < r)
+  lookup-misses-iff ok z top =
+      let m = missed-iff T n ok r z in
+      let l = lookup-iff missed in
+      ((λ e. m .0 (l .0 e .3)), (λ h. l .1 (ok, z, top, m .1 h)))

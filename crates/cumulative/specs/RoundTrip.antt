@@ -4,15 +4,13 @@ use Prim.Native.Nat.{ℕ, _+_, _^_, _≤_, _<_}
 use mathlib.Core.Path.{_≡_, refl, ap, _∙_}
 use mathlib.Core.List.{List}
 use native.Mathlib.Omega.{arith}
-use borrow.Author.Tests.{ltb-false}
-use lib.Dec.{ltb}
 use lib.ListN.{length, getD, take}
 use lib.Seq.{ext-getD}
 use Rattle.laws.specs.Sums.{sumTo, sum-eq, sum-more}
 use Rattle.laws.specs.Digits.{digit, number-lt, digit-number}
 use Rattle.laws.specs.Lists.{length-upto, getD-upto}
 use Rattle.laws.specs.Lay.{lay, take-lay}
-use Rattle.laws.specs.Outcome.{gives, passed, bound, gives-inj}
+use Rattle.laws.specs.Outcome.{gives, bound}
 use Rattle.files.specs.Matrix.{Matrix, Accepted, bit, p, total}
 use Rattle.files.specs.Files.{matrixFile, matrixOf}
 use Rattle.files.specs.Matrices.{equal-bits}
@@ -21,7 +19,7 @@ use Rattle.files.specs.RoundTrip.{accepted-bits, read-accepted, read-write}
 use Rattle.cumulative.specs.Tables.{Table, most-bits, entry, rowsOf, difference, imported, importOf, sums, exportOf}
 use Rattle.cumulative.specs.Taken.{Cumulative, summed}
 use Rattle.cumulative.specs.Importing.{imported-bit, imported-row, imported-accepted, import-iff, import-is}
-use Rattle.cumulative.specs.Exporting.{export-room}
+use Rattle.cumulative.specs.Exporting.{export-room, export-says}
 
 -- ---- the table of an accepted matrix
 module _ (M : Matrix) where
@@ -29,7 +27,7 @@ module _ (M : Matrix) where
   unfolding sums
   sums-entry v h = getD-upto (M .rows + 1) (λ v. sumTo v (p M)) v 0 (omega arith)
 
-  pub length-sums : length (sums M) ≡ M .rows + 1
+  length-sums : length (sums M) ≡ M .rows + 1
   unfolding sums
   length-sums = length-upto (M .rows + 1) (λ v. sumTo v (p M))
 
@@ -54,10 +52,12 @@ module _ (M : Matrix) where
     sums-cumulative h =
         let m = sums-rows in
         record {
-          some = omega (arith, length-sums, ok .some-rows);
-          few = omega (arith, length-sums, ok .few-rows);
-          some-bits = ok .some-columns;
-          few-bits = h;
+          sizes = record {
+            some = omega (arith, length-sums, ok .some-rows);
+            few = omega (arith, length-sums, ok .few-rows);
+            some-bits = ok .some-columns;
+            few-bits = h;
+          };
           first = sums-entry 0 (omega arith);
           rises = record {
             next = λ v l.
@@ -90,7 +90,7 @@ module _ (M : Matrix) where
 pub imported-sums : (T : List ℕ) (n : ℕ) → Cumulative T n → sums (imported T n) ≡ T
 unfolding imported
 imported-sums T n ok =
-    ext-getD 0 (sums (imported T n)) T (length-sums (imported T n) ∙ omega (arith, ok .some))
+    ext-getD 0 (sums (imported T n)) T (length-sums (imported T n) ∙ omega (arith, ok .sizes .some))
     (λ v l. let h : v ≤ rowsOf T = omega (arith, length-sums (imported T n)) in
     sums-entry (imported T n) v h ∙
     (sum-eq v (p (imported T n)) (difference T) (λ i k. imported-row T n ok i (omega arith)) ∙
@@ -105,22 +105,22 @@ unfolding exportOf
 export-then-import file table room t bytes e h =
     let b = bound (matrixOf file) _ t e in
     let M = b .0 in
-    let c3 = passed 3 (ltb most-bits (M .columns)) _ t (b .2) in
-    let c13 = passed 13 (ltb (length table) (M .rows + 1)) _ t (c3 .1) in
+    let (narrow, is) = export-says file (length table) t e M (b .1) in
     let ok = read-accepted file M (b .1) in
-    let narrow : M .columns ≤ most-bits = ltb-false _ _ (c3 .0) in
     let back = sums-imported M ok narrow in
     let same : matrixFile M ≡ file = read-write file bytes M (b .1) in
-    rw (← gives-inj (c13 .1), take-lay (length (sums M)) (sums M) table refl)
+    rw (is, take-lay (length (sums M)) (sums M) table refl)
     (import-iff (sums M) (M .columns) room file .1
     (sums-cumulative M ok narrow, rw (sums-rows M) (omega (arith, ap length same, length-file M)), ap matrixFile back ∙ same))
 
--- An imported table exports as the same numbers with the same n, into any buffer with room for them.
-pub import-then-export : (T : List ℕ) (n room : ℕ) (file : List ℕ) (space : ℕ) → importOf T n room ≡ gives file → length T ≤ space →
-    exportOf file space ≡ gives (record { numbers = T; columns = n })
+-- An imported table, its file read from the front of the buffer into which it was laid, exports as the same numbers with the same n, into
+-- any buffer with room for them.
+pub import-then-export : (T : List ℕ) (n : ℕ) (buffer file : List ℕ) (space : ℕ) → importOf T n (length buffer) ≡ gives file →
+    length T ≤ space → exportOf (take (length file) (lay file buffer)) space ≡ gives (record { numbers = T; columns = n })
 unfolding imported
-import-then-export T n room file space e h =
-    let ok = import-iff T n room file .0 e .0 in
+import-then-export T n buffer file space e h =
+    let ok = import-iff T n (length buffer) file .0 e .0 in
     let t : List ℕ → Table = λ l. record { numbers = l; columns = n } in
-    export-room file space (imported T n) (import-is T n room file e) (ok .few-bits) (omega (arith, ok .some)) ∙
-    ap (λ (l : List ℕ). gives (t l)) (imported-sums T n ok)
+    rw (take-lay (length file) file buffer refl)
+    (export-room file space (imported T n) (import-is T n (length buffer) file e) (ok .sizes .few-bits) (omega (arith, ok .sizes .some)) ∙
+    ap (λ (l : List ℕ). gives (t l)) (imported-sums T n ok))

@@ -104,7 +104,7 @@ exportOf file room = do
 abbrev pub holds : List ℕ → ℕ → ℕ → Bool
 holds T r s = ltb (entry T s) r && leb r (entry T (s + 1))
 
--- the s below m that passes the test, or a miss
+-- the s below m that passes the test, or a miss; of several, which no table that is taken has, the largest
 unfoldable pub theOne : ℕ → (ℕ → Bool) → Answer
 theOne zero test = missed
 theOne (suc m) test = cond (test m) (sample m) (theOne m test)

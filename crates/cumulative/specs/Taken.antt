@@ -25,12 +25,16 @@ pub rising : (T : List ℕ) → falls T ≡ false → Rising T
 unfolding falls
 rising T e = record { next = λ v l. ltb-false _ _ (any-false (rowsOf T) v (λ v. ltb (entry T (v + 1)) (entry T v)) e l) }
 
--- a table that is taken with n columns
-pub record Cumulative (T : List ℕ) (n : ℕ) : Type 0 where
+-- sizes that fit
+pub record Sized (T : List ℕ) (n : ℕ) : Type 0 where
   pub some : 2 ≤ length T
   pub few : length T ≤ most-numbers
   pub some-bits : 1 ≤ n
   pub few-bits : n ≤ most-bits
+
+-- a table that is taken with n columns
+pub record Cumulative (T : List ℕ) (n : ℕ) : Type 0 where
+  pub sizes : Sized T n
   pub first : entry T 0 ≡ 0
   pub rises : Rising T
   pub last : lastOf T ≤ 2 ^ n
@@ -57,12 +61,6 @@ module _ (T : List ℕ) (up : Rising T) where
       rw (← add-one v) (omega (arith, on, up .next v (omega arith), summed v (omega arith)))
 
 -- ---- sizes
-pub record Sized (T : List ℕ) (n : ℕ) : Type 0 where
-  pub some : 2 ≤ length T
-  pub few : length T ≤ most-numbers
-  pub some-bits : 1 ≤ n
-  pub few-bits : n ≤ most-bits
-
 module _ (T : List ℕ) (n : ℕ) where
   pub sized : sizesUnfit (length T) n ≡ false → Sized T n
   sized e =
@@ -71,7 +69,7 @@ module _ (T : List ℕ) (n : ℕ) where
       let c = within most-bits n (a .1) in
       record { some = ltb-false _ _ (b .0); few = ltb-false _ _ (b .1); some-bits = c .0; few-bits = c .1 }
 
-  pub fit : Sized T n → sizesUnfit (length T) n ≡ false
+  fit : Sized T n → sizesUnfit (length T) n ≡ false
   fit s =
       rw (le-ltb (length T) 2 (s .some), le-ltb most-numbers (length T) (s .few))
       (inside most-bits n (s .some-bits) (s .few-bits))
@@ -80,7 +78,6 @@ module _ (T : List ℕ) (n : ℕ) where
   taken : sizesUnfit (length T) n ≡ false → numbersOf T n ≡ gives tt → Cumulative T n
   unfolding numbersOf fills difference
   taken e q =
-      let s = sized e in
       let c15 = passed 15 (uncumulative T n) (refuse 16 (fills T n)) tt q in
       let c16 = refuse-gives 16 (fills T n) tt (c15 .1) in
       let a = neither (not (eqb (entry T 0) 0) || falls T) (ltb (2 ^ n) (lastOf T)) (c15 .0) in
@@ -88,10 +85,7 @@ module _ (T : List ℕ) (n : ℕ) where
       let up = rising T (b .1) in
       let top : lastOf T ≤ 2 ^ n = ltb-false _ _ (a .1) in
       record {
-        some = s .some;
-        few = s .few;
-        some-bits = s .some-bits;
-        few-bits = s .few-bits;
+        sizes = sized e;
         first = eqb-true _ _ (not-false _ (b .0));
         rises = up;
         last = top;
@@ -108,8 +102,5 @@ module _ (T : List ℕ) (n : ℕ) where
       (λ v l. ne-eqb (difference T v) (2 ^ n) (λ e. omega (arith, c .fits v l))) in
       rw (eq-eqb (entry T 0) 0 (c .first), none, le-ltb (2 ^ n) (lastOf T) (c .last), unfull)
 
-  sizes : Cumulative T n → sizesUnfit (length T) n ≡ false
-  sizes c = fit (record { some = c .some; few = c .few; some-bits = c .some-bits; few-bits = c .few-bits })
-
   pub taken-iff : ((sizesUnfit (length T) n ≡ false) × (numbersOf T n ≡ gives tt)) ↔ Cumulative T n
-  taken-iff = ((λ p. taken (p .0) (p .1)), (λ c. (sizes c, passes c)))
+  taken-iff = ((λ p. taken (p .0) (p .1)), (λ c. (fit (c .sizes), passes c)))

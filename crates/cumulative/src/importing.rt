@@ -1,4 +1,5 @@
-// Import: the matrix file of a table (02, order 4).
+// Import: the matrix file of a table (02, order 4). A row is packed from a number here, and in crate files from entries; what both lay down
+// is `packed`.
 ghost use mathlib.Core.Path.{_≡_};
 ghost use Prim.Native.Nat.{_+_, _*_, _≤_, _<_};
 ghost use lib.ListN.{length};
@@ -32,7 +33,7 @@ fn bit_of(x: u64, n: usize, c: usize) -> u8
 
 // Byte q of the n bits of x, packed.
 fn pack_byte(x: u64, n: usize, q: usize) -> u8
-    requires { ⌜ (n ≤ most-bits) × (q < 8191) ⌝ }
+    requires { ⌜ (n ≤ most-bits) × (q < width n) ⌝ }
     ensures { λ r. ⌜ r ≡ number (padded n (digit n x)) (8 * q) 8 ⌝ }
 {
     let mut byte: u8 = 0;

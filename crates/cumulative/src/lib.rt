@@ -14,5 +14,3 @@ pub use exporting::export;
 pub use importing::import;
 pub use looking::Looked;
 pub use looking::lookup;
-pub use tables::BITS;
-pub use tables::NUMBERS;

@@ -9,10 +9,10 @@ use fields::Refusal;
 use fields::outside;
 
 // The most numbers of a table: one more than rows.
-pub const NUMBERS: usize = 129;
+const NUMBERS: usize = 129;
 
 // The largest n: 2^n and every number up to it have 64 bits.
-pub const BITS: usize = 63;
+pub(crate) const BITS: usize = 63;
 
 // A refusal, or that the numbers are sound.
 pub(crate) enum Tried {

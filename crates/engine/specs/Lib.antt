@@ -10,6 +10,6 @@ pub mod Values
 pub mod Parts
 pub mod Wide
 pub mod WideDraws
-pub mod Tables
+pub mod Lookups
 pub mod Foreign
 pub mod Cases

@@ -1,5 +1,5 @@
 -- The ways through the checks of weights, and what is built: an accepted matrix whose rows are the shares. Assumes nothing.
-use Prim.Native.Nat.{ℕ, _+_, _*_, _^_, _≤_, _<_}
+use Prim.Native.Nat.{ℕ, _*_, _^_, _≤_, _<_}
 use mathlib.Core.Path.{_≡_, sym, _∙_}
 use mathlib.Core.Bool.{true, false}
 use mathlib.Core.List.{List}
@@ -9,7 +9,7 @@ use borrow.Author.Tests.{eq-eqb, ne-eqb, eqb-false}
 use lib.Dec.{eqb, ltb}
 use lib.ListN.{length, getD}
 use Rattle.laws.specs.Sums.{sumTo, sum-eq, sum-mono, sum-times, term-le}
-use Rattle.laws.specs.Digits.{number-shift, number-digit, digit, digit-le}
+use Rattle.laws.specs.Digits.{digit, digit-le}
 use Rattle.laws.specs.Lists.{blocks}
 use Rattle.laws.specs.Lay.{layAt}
 use Rattle.laws.specs.Outcome.{refused, gives, refuse, _>>_, mapped, passed, gives-inj}
@@ -17,7 +17,7 @@ use Rattle.fields.specs.Limits.{most-columns, within}
 use Rattle.fields.specs.Fields.{packed}
 use Rattle.files.specs.Matrix.{Accepted, sizesOutside, bit, p, total, most-rows}
 use Rattle.files.specs.Files.{fileLength, matrixFile, matrixOf, readOf, writeHeaderOf}
-use Rattle.files.specs.Matrices.{tabled-whole, tabled-bit, tabled-bits}
+use Rattle.files.specs.Matrices.{tabled-whole, tabled-bit, tabled-bits, numbered-row}
 use Rattle.files.specs.Sizes.{sizes-refuse}
 use Rattle.files.specs.Checks.{read-room}
 use Rattle.files.specs.Writing.{with-header, Head, Wrote, ends-unheaded, ends-headed}
@@ -69,10 +69,8 @@ module _ (usage : Usage) (weights : List ℕ) (n : ℕ) where
 
   -- row v is the share of weight v
   pub built-row : 0 < sum usage weights → (v : ℕ) → v < length weights → p (built usage weights n) v ≡ row v
-  unfolding p built
-  built-row z v h =
-      number-shift (bit (built usage weights n) v) (digit n (row v)) 0 0 n (λ i l. built-bit v (0 + i) h (omega arith)) ∙
-      number-digit n (row v) (share-largest n (weight v) S z .fits)
+  unfolding built
+  built-row z v h = numbered-row (length weights) n row v h (share-largest n (weight v) S z .fits)
 
   built-total : 0 < S → total (built usage weights n) ≤ 2 ^ n
   unfolding total built sum

@@ -44,7 +44,7 @@ pack-rows-requires c κs =
     let s = start (past wrote) .args in
     let head = head-room _ _ _ (s .file .now) _ (rw (told .length .given .1) at (wrote .write-header .ensures)) in
     let ok = taken-iff (s .table .now) (s .columns) .0 (inside (past wrote), sym (sound wrote)) in
-    ((ok .few-bits, omega (arith, ok .some), ok .rises), head .1)
+    ((ok .sizes .few-bits, omega (arith, ok .sizes .some), ok .rises), head .1)
 
 returns-2 : tie.Need-returns-2
 returns-2 c =

@@ -18,8 +18,8 @@ fitting c =
     (omega (arith, s .some), s .few-bits)
 
 -- and what has passed before 16 is tried
-even : (c : tie.Else1) → uncumulative (c .before .before .before .args .table .now) (c .before .before .before .args .n) ≡ false
-even c = sym (c .before .uncumulative .ensures) ∙ c .if1 .left
+past-15 : (c : tie.Else1) → uncumulative (c .before .before .before .args .table .now) (c .before .before .before .args .n) ≡ false
+past-15 c = sym (c .before .uncumulative .ensures) ∙ c .if1 .left
 
 uncumulative-requires : tie.Need-uncumulative-requires
 uncumulative-requires c κs = fitting (c .before)
@@ -33,16 +33,16 @@ fills-requires c κs =
     let start = c .before .before .before in
     let T = start .args .table .now in
     let n = start .args .n in
-    let e = neither (not (eqb (entry T 0) 0) || falls T) (ltb (2 ^ n) (lastOf T)) (even c) in
+    let e = neither (not (eqb (entry T 0) 0) || falls T) (ltb (2 ^ n) (lastOf T)) (past-15 c) in
     (fitting start .0, fitting start .1, neither (not (eqb (entry T 0) 0)) (falls T) (e .0) .1)
 
 returns-2 : tie.Need-returns-2
 unfolding numbersOf
-returns-2 c = rw (even (c .before .before), sym (c .before .fills .ensures) ∙ c .if2 .taken)
+returns-2 c = rw (past-15 (c .before .before), sym (c .before .fills .ensures) ∙ c .if2 .taken)
 
 returns-3 : tie.Need-returns-3
 unfolding numbersOf
-returns-3 c = rw (even (c .before .before), sym (c .before .fills .ensures) ∙ c .if2 .left)
+returns-3 c = rw (past-15 (c .before .before), sym (c .before .fills .ensures) ∙ c .if2 .left)
 
 pub try-numbers-spec : {M : Type 1} → statement M
 try-numbers-spec = tie.close (tie.spec uncumulative-requires returns fills-requires returns-2 returns-3)

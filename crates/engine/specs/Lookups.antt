@@ -9,19 +9,22 @@ use borrow.Author.Tests.{le-ltb, ltb-true, ltb-false, eq-eqb, ne-eqb}
 use lib.Dec.{ltb}
 use lib.ListN.{length}
 use Rattle.laws.specs.Tests.{never}
-use Rattle.laws.specs.Outcome.{gives, passed, gives-inj}
+use Rattle.laws.specs.Outcome.{gives}
 use Rattle.files.specs.Matrix.{Matrix, total}
 use Rattle.files.specs.Files.{fileLength, matrixFile, matrixOf}
 use Rattle.files.specs.RoundTrip.{read-accepted}
 use Rattle.walk.specs.Walk.{Answer, sample, missed}
 use Rattle.walk.specs.Strings.{Bits, strings, count, count-each}
-use Rattle.cumulative.specs.Tables.{most-bits, rowsOf, lastOf, difference, holds, imported, importOf, sums, found, lookupOf}
+use Rattle.cumulative.specs.Tables.{Table, most-bits, rowsOf, lastOf, difference, holds, imported, importOf}
+use Rattle.cumulative.specs.Tables.{sums, exported, exportOf, found, lookupOf}
 use Rattle.cumulative.specs.Taken.{Cumulative}
 use Rattle.cumulative.specs.Importing.{imported-row, imported-total, import-iff, import-is}
+use Rattle.cumulative.specs.Exporting.{export-says}
 use Rattle.cumulative.specs.Lookup.{holds-iff, found-iff, missed-iff, lookup-iff}
 use Rattle.cumulative.specs.RoundTrip.{sums-rows, sums-difference, sums-cumulative, sums-imported}
 use Rattle.cumulative.specs.Counts.{numbersTo, numbers-within, holds-count, above-count}
 use Rattle.compiler.specs.Translation.{program, compiled, compileOf}
+use Rattle.compiler.specs.Compiled.{compile-accepted}
 use Rattle.engine.specs.Given.{Choice, Fair, given, says, says-miss}
 use Rattle.engine.specs.Demand3.{demand-3-samples, demand-3-misses}
 
@@ -80,11 +83,6 @@ module _ (T : List ℕ) (n : ℕ) (ok : Cumulative T n) where
 
 -- ---- a table, the file that it imports as, the program that this compiles to, and lane, other lanes, earlier contents and budget chosen
 -- anew for each string of n bits
-compiles-to : (file : List ℕ) (space : ℕ) (code : List ℕ) (M : Matrix) → matrixOf file ≡ gives M → compileOf file space ≡ gives code →
-    compiled M ≡ code
-unfolding compileOf
-compiles-to file space code M e c = gives-inj (passed 13 (ltb space (length (compiled M))) _ code (rw e at c) .1)
-
 module _ (T : List ℕ) (n room space : ℕ) (file code : List ℕ) (i : importOf T n room ≡ gives file) (c : compileOf file space ≡ gives code)
     (choose : List ℕ → Choice) (fair : (s : List ℕ) → Bits n s → Fair (program (imported T n)) s (choose s)) where
   ok : Cumulative T n
@@ -93,15 +91,15 @@ module _ (T : List ℕ) (n room space : ℕ) (file code : List ℕ) (i : importO
   read : matrixOf file ≡ gives (imported T n)
   read = import-is T n room file i
 
-  is : compiled (imported T n) ≡ code
-  is = compiles-to file space code (imported T n) read c
+  is : code ≡ compiled (imported T n)
+  is = compile-accepted file code space (imported T n) read c .0
 
   -- sample v comes from as many numbers as strings
   pub samples-alike : (v : ℕ) → v < rowsOf T →
       count (λ r. says v (lookupOf T n r)) (numbersTo (2 ^ n)) ≡ count (λ s. says v (given code (choose s))) (strings n)
   unfolding imported
   samples-alike v h =
-      rw (← is)
+      rw is
       (lookup-count T n ok v h ∙
       sym (demand-3-samples file (imported T n) read choose fair v h ∙ imported-row T n ok v h))
 
@@ -110,7 +108,7 @@ module _ (T : List ℕ) (n room space : ℕ) (file code : List ℕ) (i : importO
       count (λ r. says-miss (lookupOf T n r)) (numbersTo (2 ^ n)) ≡ count (λ s. says-miss (given code (choose s))) (strings n)
   unfolding imported
   misses-alike =
-      rw (← is)
+      rw is
       (lookup-misses T n ok ∙
       sym (demand-3-misses file (imported T n) read choose fair ∙ ap (λ (t : ℕ). 2 ^ n - t) (imported-total T n ok)))
 
@@ -125,23 +123,32 @@ looked-compiles T n r a room space l h k =
     let read = import-is T n room (matrixFile (imported T n)) i in
     (matrixFile (imported T n), i, rw (read, le-ltb space (length (compiled (imported T n))) k))
 
--- ---- and of the table that a matrix file exports as: the program of that file
-module _ (file : List ℕ) (M : Matrix) (e : matrixOf file ≡ gives M) (narrow : M .columns ≤ most-bits) (choose : List ℕ → Choice)
+-- ---- and of the table that a matrix file exports as, with the program that this file compiles to
+module _ (file : List ℕ) (room space : ℕ) (t : Table) (code : List ℕ) (x : exportOf file room ≡ gives t)
+    (c : compileOf file space ≡ gives code) (M : Matrix) (e : matrixOf file ≡ gives M) (choose : List ℕ → Choice)
     (fair : (s : List ℕ) → Bits (M .columns) s → Fair (program M) s (choose s)) where
-  pub exported-alike : (v : ℕ) → v < M .rows →
-      count (λ r. says v (lookupOf (sums M) (M .columns) r)) (numbersTo (2 ^ M .columns)) ≡
-      count (λ s. says v (given (compiled M) (choose s))) (strings (M .columns))
-  exported-alike v h =
-      let ok = sums-cumulative M (read-accepted file M e) narrow in
-      lookup-count (sums M) (M .columns) ok v (omega (arith, sums-rows M)) ∙
-      (sums-difference M v h ∙ sym (demand-3-samples file M e choose fair v h))
+  of : (M .columns ≤ most-bits) × (t ≡ exported M)
+  of = export-says file room t x M e
 
-  pub exported-misses : count (λ r. says-miss (lookupOf (sums M) (M .columns) r)) (numbersTo (2 ^ M .columns)) ≡
-      count (λ s. says-miss (given (compiled M) (choose s))) (strings (M .columns))
+  takes : Cumulative (sums M) (M .columns)
+  takes = sums-cumulative M (read-accepted file M e) (of .0)
+
+  compiles : code ≡ compiled M
+  compiles = compile-accepted file code space M e c .0
+
+  pub exported-alike : (v : ℕ) → v < M .rows →
+      count (λ r. says v (lookupOf (t .numbers) (t .columns) r)) (numbersTo (2 ^ t .columns)) ≡
+      count (λ s. says v (given code (choose s))) (strings (t .columns))
+  exported-alike v h =
+      rw (of .1, compiles)
+      (lookup-count (sums M) (M .columns) takes v (omega (arith, sums-rows M)) ∙
+      (sums-difference M v h ∙ sym (demand-3-samples file M e choose fair v h)))
+
+  pub exported-misses : count (λ r. says-miss (lookupOf (t .numbers) (t .columns) r)) (numbersTo (2 ^ t .columns)) ≡
+      count (λ s. says-miss (given code (choose s))) (strings (t .columns))
   exported-misses =
-      let a = read-accepted file M e in
-      let ok = sums-cumulative M a narrow in
-      lookup-misses (sums M) (M .columns) ok ∙
-      (ap (λ (t : ℕ). 2 ^ M .columns - t)
-      (sym (imported-total (sums M) (M .columns) ok) ∙ ap total (sums-imported M a narrow)) ∙
-      sym (demand-3-misses file M e choose fair))
+      let last : lastOf (sums M) ≡ total M =
+      sym (imported-total (sums M) (M .columns) takes) ∙ ap total (sums-imported M (read-accepted file M e) (of .0)) in
+      rw (of .1, compiles)
+      (lookup-misses (sums M) (M .columns) takes ∙
+      (ap (λ (k : ℕ). 2 ^ M .columns - k) last ∙ sym (demand-3-misses file M e choose fair)))
