@@ -73,7 +73,7 @@ term-le zero i g h = absurd (omega arith)
 term-le (suc n) i g h =
     ⊎-elim (λ (q : i ≡ n). rw q (omega arith)) (λ (q : i < n). omega (arith, term-le n i g q)) (eq-or-lt-of-le (le-of-suc-le-suc h))
 
--- and so are the terms before any place
+-- and so is the sum of the first of its terms
 pub sum-front-le : (i n : ℕ) (g : ℕ → ℕ) → i ≤ n → sumTo i g ≤ sumTo n g
 unfolding sumTo
 sum-front-le i zero g h =
