@@ -54,11 +54,19 @@ module _ (file : List ℕ) (M : Matrix) (e : matrixOf file ≡ gives M) where
   exported-read : exported M ≡ tableAt (drop 8 file) (sizes M)
   exported-read = ap (λ (l : List ℕ). record { numbers = l; columns = M .columns }) sums-read
 
+  -- the sums fit
   sum-small : M .columns ≤ most-bits → sumTo (M .rows) (rowAt (drop 8 file) (M .columns)) ≤ 2 ^ most-bits
   unfolding total
   sum-small h =
       rw (← sum-eq (M .rows) (p M) (rowAt (drop 8 file) (M .columns)) row-read)
       (omega (arith, matrix-read file M e .sum, pow-mono {i = M .columns} {j = most-bits} h))
+
+-- of a caller who knows its sizes
+pub rows-small : (file : List ℕ) (s : Sizes) → gives s ≡ mapped sizes (matrixOf file) → s .columns ≤ most-bits →
+    sumTo (s .rows) (rowAt (drop 8 file) (s .columns)) ≤ 2 ^ most-bits
+rows-small file s e h =
+    let g = mapped-gives sizes (matrixOf file) s e in
+    rw (← g .2) (sum-small file (g .0) (g .1) (rw (← g .2) at h))
 
 -- ---- the checks, after those of the file gave its sizes
 module _ (file : List ℕ) (room : ℕ) where
@@ -103,9 +111,3 @@ module _ (file : List ℕ) (room : ℕ) where
           let g = mapped-gives sizes (matrixOf file) s e in
           export-room (g .0) (g .1) (rw (← g .2) at h) (rw (← g .2) at l) ∙
           ap gives (exported-read file (g .0) (g .1) ∙ ap (tableAt (drop 8 file)) (g .2))
-
-      -- the sums fit
-      pub rows-small : sumTo (s .rows) (rowAt (drop 8 file) (s .columns)) ≤ 2 ^ most-bits
-      rows-small =
-          let g = mapped-gives sizes (matrixOf file) s e in
-          rw (← g .2) (sum-small file (g .0) (g .1) (rw (← g .2) at h))

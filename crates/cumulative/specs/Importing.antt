@@ -35,7 +35,7 @@ module _ (T : List ℕ) (n : ℕ) where
     unfolding imported
     imported-row v h = numbered-row (rowsOf T) n (difference T) v h (ok .fits v h)
 
-    -- T, the sum of the rows, is the last number
+    -- the sum of the rows is the last number
     pub imported-total : total (imported T n) ≡ lastOf T
     unfolding total imported
     imported-total =

@@ -118,27 +118,27 @@ ones-between (suc N) a b =
     (λ (k : N + 1 ≤ b). rw (lt-ltb a (N + 1) l, le-leb (N + 1) b k) (omega (arith, ones-between N a b))) (lt-or-ge b (N + 1)))
     (λ (l : N + 1 ≤ a). rw (le-ltb a (N + 1) l) (omega (arith, ones-between N a b))) (lt-or-ge a (N + 1))
 
-module _ (T : List ℕ) (up : Rising T) (r : ℕ) where
-  -- the first s of them, and no other
-  counted : (s : ℕ) → s ≤ rowsOf T → ((v : ℕ) → v < s → entry T (v + 1) < r) → ((v : ℕ) → s ≤ v → v < rowsOf T → r ≤ entry T (v + 1)) →
-      below T r ≡ s
-  unfolding below
-  counted s h a b =
-      sum-eq (rowsOf T) (λ v. one-if (ltb (entry T (v + 1)) r)) (λ v. one-if (ltb 0 (v + 1) && leb (v + 1) s))
-      (λ v l. let z = lt-ltb 0 (v + 1) (omega arith) in
-      ⊎-elim (λ (k : v < s). rw (lt-ltb (entry T (v + 1)) r (a v k), z, le-leb (v + 1) s (omega arith)))
-      (λ (k : s ≤ v). rw (le-ltb (entry T (v + 1)) r (b v k l), z, lt-leb (v + 1) s (omega arith))) (lt-or-ge v s)) ∙
-      (ones-between (rowsOf T) 0 s ∙ omega arith)
+-- the first s numbers after the first, and no other
+counted : (T : List ℕ) (r s : ℕ) → s ≤ rowsOf T → ((v : ℕ) → v < s → entry T (v + 1) < r) →
+    ((v : ℕ) → s ≤ v → v < rowsOf T → r ≤ entry T (v + 1)) → below T r ≡ s
+unfolding below
+counted T r s h a b =
+    sum-eq (rowsOf T) (λ v. one-if (ltb (entry T (v + 1)) r)) (λ v. one-if (ltb 0 (v + 1) && leb (v + 1) s))
+    (λ v l. let z = lt-ltb 0 (v + 1) (omega arith) in
+    ⊎-elim (λ (k : v < s). rw (lt-ltb (entry T (v + 1)) r (a v k), z, le-leb (v + 1) s (omega arith)))
+    (λ (k : s ≤ v). rw (le-ltb (entry T (v + 1)) r (b v k l), z, lt-leb (v + 1) s (omega arith))) (lt-or-ge v s)) ∙
+    (ones-between (rowsOf T) 0 s ∙ omega arith)
 
+module _ (T : List ℕ) (up : Rising T) (r : ℕ) where
   below-row : (s : ℕ) → Holds T r s → below T r ≡ s
   below-row s q =
-      counted s (omega (arith, q .row))
+      counted T r s (omega (arith, q .row))
       (λ v l. omega (arith, q .above, later T up (v + 1) s (omega arith) (omega (arith, q .row))))
       (λ v l k. omega (arith, q .upto, later T up (s + 1) (v + 1) (omega arith) (omega arith)))
 
   below-all : lastOf T < r → below T r ≡ rowsOf T
   below-all h =
-      counted (rowsOf T) (omega arith) (λ v l. omega (arith, h, later T up (v + 1) (rowsOf T) (omega arith) (omega arith)))
+      counted T r (rowsOf T) (omega arith) (λ v l. omega (arith, h, later T up (v + 1) (rowsOf T) (omega arith) (omega arith)))
       (λ v l k. absurd (omega arith))
 
 -- ---- in a table that is taken, and of a number from 1 on

@@ -39,7 +39,7 @@ add-up-requires c κs =
     let told = narrow .before .before in
     let e = rw (told .rows .given .1) at (told .before .before .check .ensures) in
     let w = checked-whole _ _ e in
-    (w .few-rows, narrow .if1 .left, room .if2 .left, rw rest-is (rows-small _ 0 _ e (narrow .if1 .left)))
+    (w .few-rows, narrow .if1 .left, room .if2 .left, rw rest-is (rows-small _ _ e (narrow .if1 .left)))
 
 returns-3 : tie.Need-returns-3
 returns-3 c =
