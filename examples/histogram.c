@@ -18,33 +18,9 @@ _Static_assert(SAMPLES % CORKHOLLOW_LANES == 0, "a batch is drawn whole");
 static struct bell bell;
 static uint32_t drawn[BELL_VALUES]; /* value v is counted at BELL_MOST + v */
 
-/* Counts 64 samples; tells the misses among them. No other number than those of the table is ever given. */
-static int count(const int16_t *samples) {
-    int missed = 0;
-    for (int j = 0; j < CORKHOLLOW_LANES; j++) {
-        if (samples[j] == CORKHOLLOW_SIGNED_MISS) missed++;
-        else drawn[BELL_MOST + samples[j]]++;
-    }
-    return missed;
-}
-
-/* Tells the misses. */
-static int draw(void) {
-    int16_t samples[CORKHOLLOW_LANES];
-    int missed = 0;
-    FILE *source = open_random();
-    for (int batch = 1; batch <= BATCHES; batch++) {
-        bell_draw(&bell, source, samples);
-        missed += count(samples);
-        chart_progress(batch, BATCHES);
-    }
-    fclose(source);
-    return missed;
-}
-
 int main(void) {
     bell_make(SIGMA, &bell);
-    int missed = draw();
+    int missed = bell_tally(&bell, BATCHES, drawn);
     printf("%d signed samples, sigma %s, from an exact table of %zu rows and %d columns\n\n", SAMPLES, SIGMA, bell.rows, BELL_COLUMNS);
     chart_print(&(struct chart){.most = BELL_MOST, .width = 1, .expected = bell.share, .drawn = drawn, .samples = SAMPLES});
     printf("misses: %d drawn; %" PRIu64 " of the 2^%d strings miss, a proportion of %.1e\n", missed, bell.misses, BELL_COLUMNS,

@@ -118,10 +118,17 @@ uint32_t corkhollow_write(size_t rows, size_t columns,
                           size_t *length);
 
 /*
- * Builds a matrix file from weights, and tells its length: row v is the largest number of `columns` bits not above 2^columns times
- * weight v over the sum of all. Weight v is that of sample v, or for signed use of distance v; both are built alike. With a sign, 0 has one
- * value and every other distance two: halve the weight of 0 for signed use, or 0 comes twice as often as the curve says.
- * Refusals, in the order tried: 3 for the number of weights or columns, 11, 13 for `file`.
+ * Builds a matrix file from weights, and tells its length. A row built from w is the largest number of `columns` bits not above
+ * 2^columns * w / S.
+ *
+ * For plain use weight v is that of sample v: S is the sum of all weights, and row v is built from weight v.
+ *
+ * For signed use (`is_signed`) weight v is that of the values v and -v, each, and 0 has only one sign: S is weight 0 and twice all others,
+ * row 0 is built from weight 0, and every other row v from twice weight v. So every value, 0 too, comes in proportion to its weight, as
+ * near as the columns allow. Give the curve's own weights, and halve or double none: whoever has halved weight 0 until now must stop doing
+ * so. Draw with corkhollow_draw_signed; corkhollow_draw gives the distances alone.
+ *
+ * Refusals, in the order tried, the same for both uses: 3 for the number of weights or columns, 11, 13 for `file`.
  */
 uint32_t corkhollow_build(const uint32_t *weights, size_t weights_length,
                           size_t columns, bool is_signed,

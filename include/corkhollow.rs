@@ -312,7 +312,8 @@ pub fn write(
     settle(returned, length)
 }
 
-/// Builds a matrix file from weights, and tells its length.
+/// Builds a matrix file from weights, and tells its length. Weight v is that of sample v, or where `signed` of the values v and -v, each:
+/// give the curve's own weights, also that of 0, and `draw_signed` gives every value in proportion to its weight.
 pub fn build(
     weights: &[u32],
     columns: usize,

@@ -396,3 +396,20 @@ pub fn weights(random: &mut Random, number: usize) -> Vec<u32> {
     };
     (0..number).map(|_| weight(random)).collect()
 }
+
+/// Weights by distance: as above, in some lists with 0 in place of the first or of all others, or
+/// with the largest number in place of all but the first, of one or of all, or falling.
+pub fn distance_weights(random: &mut Random, number: usize) -> Vec<u32> {
+    let mut list = weights(random, number);
+    let any = random.below(number);
+    match random.below(8) {
+        0 => list[0] = 0,
+        1 => list[1..].fill(0),
+        2 => list[1..].fill(u32::MAX),
+        3 => list[any] = u32::MAX,
+        4 => list.fill(u32::MAX),
+        5 => list.sort_by(|one, other| other.cmp(one)),
+        _ => {}
+    }
+    list
+}

@@ -10,11 +10,13 @@ use reference::listing::{lister, MOST_LISTED};
 use reference::machine::{resume, start};
 use reference::matrix::{check, read, write, Matrix};
 use reference::program;
+use reference::random::{self, Random};
 use reference::record::put;
 use reference::refusal::Answer;
 use reference::walk::{spent, walk, Walked};
 use reference::weights::build;
 use reference::wide::combine;
+use std::collections::BTreeMap;
 
 fn file_of(rows: &[&str]) -> Vec<u8> {
     Matrix::from_texts(rows).encode()
@@ -126,16 +128,38 @@ fn write_tries_sizes_entries_bits_total_and_room() {
     assert_eq!(write(128, 128, &[0; 16_384], 2_056).unwrap().len(), 2_056);
 }
 
+/// 3, then 11, then 13, for either use: each alone and with all that come after it.
 #[test]
 fn build_tries_sizes_sum_and_room() {
-    assert_eq!(build(&[], 1, false, 0), Err(3));
-    assert_eq!(build(&[0; 129], 1, false, 0), Err(3));
-    assert_eq!(build(&[0], 0, false, 0), Err(3));
-    assert_eq!(build(&[0], 129, false, 0), Err(3));
-    assert_eq!(build(&[0], 65_536 + 1, false, 0), Err(3));
-    assert_eq!(build(&[0; 128], 128, true, 0), Err(11));
-    assert_eq!(build(&[1], 1, false, 8), Err(13));
-    assert_eq!(build(&[1], 1, false, 9), Ok(file_of(&["1"])));
+    for signed in [false, true] {
+        for (number, columns) in [
+            (0, 1),
+            (129, 1),
+            (1, 0),
+            (1, 129),
+            (1, 65_536 + 1),
+            (1, (1 << 32) + 1),
+            (0, 0),
+            (129, 129),
+        ] {
+            for weight in [0, 1] {
+                for file_lent in [0, usize::MAX] {
+                    let weights = vec![weight; number];
+                    assert_eq!(build(&weights, columns, signed, file_lent), Err(3));
+                }
+            }
+        }
+        for number in [1, 2, 3, 128] {
+            for file_lent in [0, 8 + 16 * number - 1, 8 + 16 * number, usize::MAX] {
+                let answer = build(&vec![0; number], 128, signed, file_lent);
+                assert_eq!(answer, Err(11));
+            }
+        }
+        assert_eq!(build(&[1], 1, signed, 8), Err(13));
+        assert_eq!(build(&[1], 1, signed, 9), Ok(file_of(&["1"])));
+        assert_eq!(build(&[0, 1], 1, signed, 9), Err(13));
+        assert_eq!(build(&[0, 1], 1, signed, 10), Ok(file_of(&["0", "1"])));
+    }
     let built = build(&[u32::MAX; 128], 128, false, 2_056).unwrap();
     assert_eq!(check(&built), Ok((128, 128)));
     assert_eq!(
@@ -144,19 +168,86 @@ fn build_tries_sizes_sum_and_room() {
     );
 }
 
-/// 2^128 / 3 is 55..55 in hexadecimal and 2^128 × 2 / 3 is aa..aa; all of S is 2^n - 1.
+/// A file is as long as weights and columns say, for either use: one byte less is too short, and
+/// what is lent beyond is left alone.
+#[test]
+fn build_needs_room_for_the_whole_file() {
+    let room_is_right = |weights: &[u32], columns: usize, signed: bool, length: usize| {
+        let exact = build(weights, columns, signed, length).unwrap();
+        assert_eq!(exact.len(), length);
+        for file_lent in [0, 8, length - 1] {
+            assert_eq!(build(weights, columns, signed, file_lent), Err(13));
+        }
+        for file_lent in [length + 1, usize::MAX] {
+            let longer = build(weights, columns, signed, file_lent);
+            assert_eq!(longer.as_ref(), Ok(&exact));
+        }
+    };
+    for (number, columns, length) in [
+        (1, 1, 9),
+        (1, 8, 9),
+        (1, 9, 10),
+        (3, 2, 11),
+        (2, 128, 40),
+        (128, 7, 136),
+        (128, 128, 2_056),
+    ] {
+        for signed in [false, true] {
+            for weight in [1, 1 << 31, u32::MAX] {
+                room_is_right(&vec![weight; number], columns, signed, length);
+            }
+        }
+    }
+}
+
+/// Lists and columns within their limits and outside, with and without a weight above 0, and room
+/// that is short, exact or more: the use decides nothing but the rows.
+#[test]
+fn both_uses_are_refused_alike() {
+    let mut random = Random::new(28);
+    let mut met = BTreeMap::new();
+    for _ in 0..4_000 {
+        let (number, columns) = random::sizes(&mut random);
+        let number = random.pick(&[number, number, number, number, 0, 129]);
+        let columns = random.pick(&[columns, columns, columns, columns, 0, 129]);
+        let mut weights = random::weights(&mut random, number);
+        if random.once_in(3) {
+            weights.fill(0);
+        }
+        let exact = 8 + number * columns.div_ceil(8);
+        let file_lent = exact + random.pick(&[0, 1, 1, 2]) - 1;
+        let of = |signed: bool| build(&weights, columns, signed, file_lent).map(|file| file.len());
+        assert_eq!(of(false), of(true));
+        *met.entry(of(true).map_or_else(|number| number, |_| 0))
+            .or_insert(0) += 1;
+    }
+    let numbers: Vec<u32> = met.keys().copied().collect();
+    assert_eq!(numbers, [0, 3, 11, 13]);
+    assert!(met.values().all(|&often| often > 200), "{met:?}");
+}
+
+/// 2^128 / 3 is 55..55 in hexadecimal and 2^128 × 2 / 3 is aa..aa; all of S is 2^n - 1. For signed
+/// use S is 1 + 2 × 2, 2^128 / 5 is 33..33 and 2^128 × 4 / 5 is cc..cc.
 #[test]
 fn quotients_are_exact() {
     let file = build(&[1, 2, 0], 128, false, 56).unwrap();
     assert_eq!(&file[8..24], [0x55; 16]);
     assert_eq!(&file[24..40], [0xaa; 16]);
     assert_eq!(&file[40..], [0; 16]);
+    let file = build(&[1, 2, 0], 128, true, 56).unwrap();
+    assert_eq!(&file[8..24], [0x33; 16]);
+    assert_eq!(&file[24..40], [0xcc; 16]);
+    assert_eq!(&file[40..], [0; 16]);
     assert_eq!(
         &build(&[0, 7], 12, false, 12).unwrap()[8..],
         [0, 0, 0xff, 0xf0]
     );
-    // 2^8 × 1 / 2^32 is below 1, and 2^8 × (2^32 - 1) / 2^32 is above 255.
-    assert_eq!(&build(&[1, u32::MAX], 8, false, 10).unwrap()[8..], [0, 255]);
+    // 2^8 × 1 / 2^32 is below 1, and 2^8 × (2^32 - 1) / 2^32 is above 255. For signed use S is
+    // 2^33 - 1, and of 2^8 less than 1 is missing again.
+    for signed in [false, true] {
+        let file = build(&[1, u32::MAX], 8, signed, 10).unwrap();
+        assert_eq!(&file[8..], [0, 255]);
+    }
 }
 
 #[test]

@@ -596,26 +596,193 @@ fn acceptance_is_room_in_the_tree() {
     }
 }
 
+/// The weights from which the rows are built, as 01 and 02 have it: w_v, and for signed use w_0 and
+/// 2 × w_v for every other. S as these papers have it is then their sum.
+fn counted(weights: &[u32], signed: bool) -> Vec<u64> {
+    let twice = |v: usize| signed && v > 0;
+    let each = weights.iter().enumerate();
+    each.map(|(v, &weight)| u64::from(weight) << u32::from(twice(v)))
+        .collect()
+}
+
+/// Every use of some lists of all sizes.
+fn each_build(seed: u64, lists: usize, mut visit: impl FnMut(&[u32], usize, bool)) {
+    let mut random = Random::new(seed);
+    for _ in 0..lists {
+        let (number, columns) = random::sizes(&mut random);
+        for weights in [
+            random::weights(&mut random, number),
+            random::distance_weights(&mut random, number),
+        ] {
+            visit(&weights, columns, false);
+            visit(&weights, columns, true);
+        }
+    }
+}
+
 #[test]
 fn rows_from_weights_are_the_largest() {
-    let mut random = Random::new(15);
-    for _ in 0..200 {
-        let (number, columns) = random::sizes(&mut random);
-        let weights = random::weights(&mut random, number);
-        let sum: u64 = weights.iter().map(|&weight| u64::from(weight)).sum();
-        let answer = build(&weights, columns, random.bit() == 1, usize::MAX);
-        if sum == 0 {
+    each_build(15, 200, |weights, columns, signed| {
+        let answer = build(weights, columns, signed, usize::MAX);
+        let counted = counted(weights, signed);
+        let sum = Natural::from(counted.iter().sum::<u64>());
+        if sum.is_zero() {
             assert_eq!(answer, Err(11));
-            continue;
+            return;
         }
         let matrix = decode(&answer.unwrap()).unwrap();
+        assert_eq!((matrix.rows, matrix.columns), (weights.len(), columns));
         let largest = Natural::power_of_two(columns).minus(&Natural::from(1));
-        for (v, &weight) in weights.iter().enumerate() {
-            let bound = Natural::from(u64::from(weight)).shifted_up(columns);
-            let (row, sum) = (matrix.value(v), Natural::from(sum));
+        for (v, &weight) in counted.iter().enumerate() {
+            let bound = Natural::from(weight).shifted_up(columns);
+            let row = matrix.value(v);
             let next = row.plus(&Natural::from(1));
             assert!(row.times(&sum) <= bound);
             assert!(row == largest || next.times(&sum) > bound);
+        }
+    });
+}
+
+/// "Plain lists build as before": row v is 2^n × w_v / S, cut to a whole number and to n bits.
+#[test]
+fn plain_lists_build_as_before() {
+    let mut built = 0;
+    each_build(29, 100, |weights, columns, signed| {
+        let sum: u64 = weights.iter().map(|&weight| u64::from(weight)).sum();
+        if signed || sum == 0 {
+            return;
+        }
+        let largest = Natural::power_of_two(columns).minus(&Natural::from(1));
+        let row = |&weight: &u32| {
+            let scaled = Natural::from(u64::from(weight)).shifted_up(columns);
+            scaled.divided_by(&Natural::from(sum)).min(largest.clone())
+        };
+        let rows: Vec<Natural> = weights.iter().map(row).collect();
+        let file = Matrix::from_values(columns, &rows).encode();
+        assert_eq!(build(weights, columns, false, file.len()), Ok(file));
+        built += 1;
+    });
+    assert!(built > 150, "{built}");
+}
+
+/// A list for signed use builds as the plain one of w_0, 2 × w_1, 2 × w_2, .. does.
+#[test]
+fn signed_lists_build_as_plain_ones_of_doubled_weights() {
+    let (mut built, mut unlike) = (0, 0);
+    each_build(30, 800, |weights, columns, signed| {
+        if !signed {
+            return;
+        }
+        // Twice as much as these has 32 bits.
+        let list: Vec<u32> = weights.iter().map(|weight| weight / 2).collect();
+        let each = list.iter().enumerate();
+        let doubled: Vec<u32> = each
+            .map(|(v, &weight)| if v == 0 { weight } else { 2 * weight })
+            .collect();
+        let signed = build(&list, columns, true, usize::MAX);
+        assert_eq!(signed, build(&doubled, columns, false, usize::MAX));
+        built += usize::from(signed.is_ok());
+        unlike += usize::from(signed != build(&list, columns, false, usize::MAX));
+    });
+    assert!(built > 400 && unlike > 200, "{built} and {unlike}");
+}
+
+/// The signed samples of all strings of a matrix file, each with both signs, as its program gives
+/// them: compiled, sliced, started, and read with the sign.
+fn signed_draws(file: &[u8], columns: usize) -> Vec<i16> {
+    let program = compile(file, usize::MAX).unwrap();
+    let strings: Vec<Vec<u8>> = all_strings(columns).map(|bits| pack(&bits)).collect();
+    let lanes = strings.iter().cycle().take(strings.len().max(64));
+    let packed: Vec<u8> = lanes.flatten().copied().collect();
+    let mut samples = Vec::new();
+    for batch in packed.chunks(64 * columns.div_ceil(8)) {
+        let words = slice(columns, batch, columns).unwrap();
+        let run = start(&program, &words, 1_024, 8, u32::MAX).unwrap();
+        for sign in [0, u64::MAX] {
+            let read = signed_samples(&run.outputs, sign, 64).unwrap();
+            samples.extend(&read[..strings.len().min(64)]);
+        }
+    }
+    samples
+}
+
+/// 02, order 5, on one accepted matrix, over all its strings and both signs: a value other than 0
+/// is given by p of its distance many, 0 by 2 × p_0, and 2 × (2^n - T) miss. Answers how often each
+/// is given.
+fn values_are_right(matrix: &Matrix) -> Counts {
+    let mut given = counts(&signed_draws(&matrix.encode(), matrix.columns));
+    let missed = given.remove(&32_767).unwrap_or_default();
+    assert_eq!(missed, matrix.misses().shifted_up(1));
+    let mut due = Counts::from([(0, matrix.value(0).shifted_up(1))]);
+    for v in 1..matrix.rows {
+        due.extend([v as i64, -(v as i64)].map(|value| (value, matrix.value(v))));
+    }
+    due.retain(|_, times| !times.is_zero());
+    assert_eq!(given, due);
+    assert_eq!(given, signed_counts(matrix));
+    given
+}
+
+#[test]
+fn values_of_all_small_matrices() {
+    for (rows, columns) in small_sizes(9) {
+        for matrix in all_matrices(rows, columns).filter(Matrix::is_accepted) {
+            values_are_right(&matrix);
+        }
+    }
+}
+
+/// What is built of a list for signed use gives each value as its weight says, 0 as any other: with
+/// S the weight of all values together, value z comes c times of 2^(n+1), where c × S is at most
+/// 2^(n+1) × w and that at most (c + 2) × S.
+fn values_have_their_weights(weights: &[u32], columns: usize) {
+    let file = build(weights, columns, true, usize::MAX).unwrap();
+    let given = values_are_right(&decode(&file).unwrap());
+    let last = weights.len() as i64 - 1;
+    let weight = |value: i64| u64::from(weights[value.unsigned_abs() as usize]);
+    let sum: u64 = (-last..=last).map(weight).sum();
+    let others: u64 = (1..=last).map(weight).sum();
+    assert_eq!(sum, weight(0) + 2 * others);
+    for value in -last..=last {
+        let times = given.get(&value).map_or(0, |times| times.word().unwrap());
+        let due = weight(value) << (columns + 1);
+        assert!(
+            times * sum <= due && due <= (times + 2) * sum,
+            "{value} of {weights:?} with n = {columns}: {times}"
+        );
+    }
+}
+
+/// All lists of up to four weights up to 3, with 1 to 4 columns, and of two up to 8 with 6.
+#[test]
+fn values_of_all_small_lists() {
+    let small = (1..=4).map(|number| (number, 3, 1..=4));
+    let mut tried = 0;
+    for (number, most, sizes) in small.chain([(2, 8, 6..=6)]) {
+        for list in all_lists(number, most) {
+            let weights: Vec<u32> = list.iter().map(|&weight| weight as u32).collect();
+            if weights.iter().any(|&weight| weight > 0) {
+                for columns in sizes.clone() {
+                    values_have_their_weights(&weights, columns);
+                    tried += 1;
+                }
+            }
+        }
+    }
+    assert_eq!(tried, (4 + 16 + 64 + 256 - 4) * 4 + (81 - 1));
+}
+
+/// Lists of up to 40 weights of any size, with up to 7 columns.
+#[test]
+fn values_of_random_lists() {
+    let mut random = Random::new(31);
+    let mut tried = 0;
+    while tried < 150 {
+        let (number, columns) = (random.between(1, 40), random.between(1, 7));
+        let weights = random::distance_weights(&mut random, number);
+        if weights.iter().any(|&weight| weight > 0) {
+            values_have_their_weights(&weights, columns);
+            tried += 1;
         }
     }
 }

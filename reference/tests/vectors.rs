@@ -1,6 +1,7 @@
 //! The vectors: the same each time, small enough to store, and answered from their own text.
 
 use reference::vectors::answer::answer;
+use reference::vectors::line::Hash;
 use reference::vectors::{each_given, LONGEST_LINE};
 
 fn lines(scale: usize) -> Vec<String> {
@@ -137,6 +138,33 @@ fn lookups_hit_and_miss() {
     // 8 + 128 × 8 bytes, and 129 numbers of 63 columns.
     met("15", "0 408 #");
     met("16", "0 81 3f #");
+}
+
+/// 02, order 5: lists are built for plain and for signed use, with the rows that can be worked out
+/// by hand, and each refusal is met for both.
+#[test]
+fn weights_are_built_for_both_uses() {
+    let lines = lines(1);
+    let built = |weights: &str, columns: &str, signed: &str, answer: &str| {
+        let given = format!("3 {weights} {columns} {signed} ");
+        let answered = format!(" = {answer}\n");
+        let found = |line: &String| line.starts_with(&given) && line.ends_with(&answered);
+        assert!(lines.iter().any(found), "{given}.. = {answer}");
+    };
+    for (signed, rows) in [("0", "404040"), ("1", "004040")] {
+        let answer = format!("0 b 0b00200003000200{rows}");
+        built("000000010000000100000001", "2", signed, &answer);
+        built("0000000000000005", "3", signed, "0 a 0a0020000200030000e0");
+        built("0000000000000005", "3", signed, "d");
+        built("000000000000000000000000", "2", signed, "b");
+        built("00000001", "1", signed, "0 9 090020000100010080");
+        built("-", "80", signed, "3");
+    }
+    // 128 times the largest: of 128 rows and columns row 0 is 0101..01, the others are 0202..02.
+    let header = [8u8, 8, 32, 0, 128, 0, 128, 0];
+    let file = [&header[..], &[1; 16], &[2; 127 * 16]].concat();
+    let answer = format!("0 808 #{:016x}", Hash::of(&file).value());
+    built(&"f".repeat(8 * 128), "80", "1", &answer);
 }
 
 /// README, "How large the fields get": task, field, digits an element (0 for a number), the most.

@@ -1,8 +1,10 @@
 //! 01, "Checked by hand": every case, with the answers that stand there. 02, by hand: order 1, the
-//! columns that these walks use; order 2, results of four samples; order 4, cumulative tables.
+//! columns that these walks use; order 2, results of four samples; order 4, cumulative tables;
+//! order 5, weights for signed use.
 
 use reference::compiler::{compile, translate};
 use reference::cumulative::{export, import, lookup, sums, Exported};
+use reference::draws::{draw, draw_signed};
 use reference::listing::lister;
 use reference::machine::{resume, start};
 use reference::matrix::{check, read, write, Matrix};
@@ -89,15 +91,130 @@ fn sums_and_sizes() {
     assert_eq!(check(&zeros(129).encode()), Err(3));
 }
 
+/// 01's cases. Since order 5 of 02 that of weights 1, 1, 1 is one of plain use; the others are the
+/// same for both uses.
 #[test]
 fn weights() {
+    let thirds = build(&[1, 1, 1], 2, false, 11).unwrap();
+    assert_eq!(thirds, file_of(&["01", "01", "01"]));
+    assert_eq!(walk(&thirds, &[0xc0]), miss(2));
     for signed in [false, true] {
-        let thirds = build(&[1, 1, 1], 2, signed, 11).unwrap();
-        assert_eq!(thirds, file_of(&["01", "01", "01"]));
-        assert_eq!(walk(&thirds, &[0xc0]), miss(2));
         assert_eq!(build(&[5], 3, signed, 9), Ok(file_of(&["111"])));
         assert_eq!(build(&[0, 0], 3, signed, 10), Err(11));
     }
+}
+
+/// 02, order 5: S is 1 + 2 × (1 + 1) = 5, and 4 / 5 is below 1, 4 × 2 / 5 from 1 to 2. Nothing is
+/// set in column 0, so that after column 1 the distance is the string's number: 0 hits row 2, 1 row
+/// 1, and row 0 has no bit to hit.
+#[test]
+fn weights_of_three_distances() {
+    let file = build(&[1, 1, 1], 2, true, 11).unwrap();
+    assert_eq!(file, file_of(&["00", "01", "01"]));
+    assert_eq!(file, [0x0b, 0, 0x20, 0, 3, 0, 2, 0, 0x00, 0x40, 0x40]);
+    assert_eq!(walk(&file, &[0b0000_0000]), hit(2, 2));
+    assert_eq!(walk(&file, &[0b0100_0000]), hit(1, 2));
+    assert_eq!(walk(&file, &[0b1000_0000]), miss(2));
+    assert_eq!(walk(&file, &[0b1100_0000]), miss(2));
+    let program = compile(&file, usize::MAX).unwrap();
+    let distances = [2, 1, 255, 255].repeat(16);
+    assert_eq!(draw(&program, &in_turn(2), 64), Ok(distances));
+    let (positive, negative) = ([2, 1, 32_767, 32_767], [-2, -1, 32_767, 32_767]);
+    for (sign, samples) in [(0, positive), (u64::MAX, negative)] {
+        let drawn = draw_signed(&program, &in_turn(2), sign, 64);
+        assert_eq!(drawn, Ok(samples.repeat(16)));
+    }
+}
+
+/// The rows of small lists: for plain use, with S as 01 has it, and for signed use, with S as 02
+/// has it. Where one distance has all of S its row is the largest number of so many bits.
+#[test]
+fn weights_for_both_uses() {
+    for (weights, columns, plain, signed) in [
+        // One weight is all of S either way.
+        (&[5][..], 3, &["111"][..], &["111"][..]),
+        (&[1], 1, &["1"], &["1"]),
+        // All of S again: 8 × 5 / 5, and 8 × 10 / 10.
+        (&[0, 5], 3, &["000", "111"], &["000", "111"]),
+        (&[5, 0], 3, &["111", "000"], &["111", "000"]),
+        // 8 × 3 / 4 and 8 / 4; S is 3 + 2 = 5, 24 / 5 and 16 / 5.
+        (&[3, 1], 3, &["110", "010"], &["100", "011"]),
+        // 4 × 2 / 3 and 4 / 3; S is 2 + 2 = 4, so that 0 has a half, and 1 and -1 a quarter each.
+        (&[2, 1], 2, &["10", "01"], &["10", "10"]),
+        // 2 / 2 each; S is 3, 2 / 3 and 4 / 3.
+        (&[1, 1], 1, &["1", "1"], &["0", "1"]),
+        // 8 / 4, 0 and 24 / 4; S is 1 + 2 × 3 = 7, 8 / 7, 0 and 48 / 7.
+        (
+            &[1, 0, 3],
+            3,
+            &["010", "000", "110"],
+            &["001", "000", "110"],
+        ),
+        // 8 / 2 each, without 0; S is 4, and 8 × 2 / 4 each.
+        (
+            &[0, 1, 1],
+            3,
+            &["000", "100", "100"],
+            &["000", "100", "100"],
+        ),
+    ] {
+        assert_eq!(build(weights, columns, false, 11), Ok(file_of(plain)));
+        assert_eq!(build(weights, columns, true, 11), Ok(file_of(signed)));
+    }
+}
+
+/// What follows the header of a list's file for signed use with 128 columns, 16 bytes a row.
+fn signed_rows(weights: &[u32]) -> Vec<[u8; 16]> {
+    let file = build(weights, 128, true, 8 + 16 * weights.len()).unwrap();
+    let rows = file[8..].chunks(16);
+    rows.map(|row| row.try_into().unwrap()).collect()
+}
+
+/// The largest weights: S is 255 × (2^32 - 1). 255 × 0101..01 is 2^128 - 1, so that 2^128 / 255 is
+/// 0101..01 and a rest of 1, and twice that 0202..02 and a rest of 2. One of all strings misses.
+#[test]
+fn the_largest_weights_for_signed_use() {
+    let rows = signed_rows(&[u32::MAX; 128]);
+    assert_eq!(rows[0], [0x01; 16]);
+    assert_eq!(rows[1..], [[0x02; 16]; 127]);
+    let file = build(&[u32::MAX; 128], 128, true, 2_056).unwrap();
+    assert_eq!(read(&file, 16_384).unwrap().misses(), Natural::from(1));
+}
+
+/// 0 alone has a weight, or all others have. In 128 bits 2^128 / 127 is 0000001 eighteen times and
+/// then 00, since 127 × (1 + 2^7 + .. + 2^119) is 2^126 - 1.
+#[test]
+fn zero_alone_and_all_but_zero() {
+    let mut alone = [0; 128];
+    alone[0] = u32::MAX;
+    let rows = signed_rows(&alone);
+    assert_eq!(rows[0], [0xff; 16]);
+    assert_eq!(rows[1..], [[0x00; 16]; 127]);
+    let mut others = [u32::MAX; 128];
+    others[0] = 0;
+    let file = build(&others, 128, true, 2_056).unwrap();
+    let row = format!("{}00", "0000001".repeat(18));
+    let rows = [&["0".repeat(128)][..], &vec![row; 127]].concat();
+    let rows: Vec<&str> = rows.iter().map(String::as_str).collect();
+    assert_eq!(file, file_of(&rows));
+    // 2^128 × 2 / 4, and 2^128 × 2 / 6.
+    let half = [&[0x80][..], &[0x00; 15]].concat();
+    assert_eq!(signed_rows(&[0, u32::MAX, u32::MAX])[1..], [&half[..]; 2]);
+    assert_eq!(signed_rows(&[0, 7, 7, 7])[1..], [[0x55; 16]; 3]);
+}
+
+/// 2 × w takes 33 bits. 2^31 twice is thirds, as 1 twice is; and (2^32 + 1) × 0000 0000 ffff ffff
+/// 0000 0000 ffff ffff is 2^128 - 1.
+#[test]
+fn twice_a_weight_may_have_33_bits() {
+    let thirds = [[0x55; 16], [0xaa; 16]];
+    for weight in [1, 1 << 30, 1 << 31, (1 << 31) + 1, u32::MAX] {
+        assert_eq!(signed_rows(&[weight, weight]), thirds);
+    }
+    let (zeros, ones) = ([0x00; 4], [0xff; 4]);
+    let rows = signed_rows(&[1, 1 << 31]);
+    assert_eq!(rows[0], *[zeros, ones, zeros, ones].concat());
+    assert_eq!(rows[1], *[ones, zeros, ones, zeros].concat());
 }
 
 #[test]

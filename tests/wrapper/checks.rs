@@ -68,12 +68,28 @@ fn files() -> Checked {
     // weights 2, 1, 1 of 4 are the rows 10, 01, 01 of 2 columns
     let length = corkhollow::build(&[2, 1, 1], 2, false, &mut file);
     must("build", length == Ok(11) && file == FILE)?;
+    for_both_uses()?;
     let mut entries = [7; 6];
     let sizes = corkhollow::read(&FILE, &mut entries);
     must("read", sizes == Ok((3, 2)) && entries == ENTRIES)?;
     let mut file = [0; 11];
     let length = corkhollow::write(3, 2, &ENTRIES, &mut file);
     must("write", length == Ok(11) && file == FILE)
+}
+
+/// 02, order 5: of weights 1, 1, 1 and 2 columns the rows are 01, 01, 01 for plain use, and 00, 01, 01 for signed use, where S is 5.
+fn for_both_uses() -> Checked {
+    for (signed, first) in [(false, 0x40), (true, 0x00)] {
+        let mut file = [7; 12];
+        let length = corkhollow::build(&[1, 1, 1], 2, signed, &mut file);
+        let wanted = [0x0b, 0, 0x20, 0, 3, 0, 2, 0, first, 0x40, 0x40, 7];
+        must("build", length == Ok(11) && file == wanted)?;
+        let none = corkhollow::build(&[0, 0], 2, signed, &mut file);
+        must("build", none == Err(Refusal(11)) && file == wanted)?;
+        let short = corkhollow::build(&[1, 1, 1], 2, signed, &mut file[..10]);
+        must("build", short == Err(Refusal(13)) && file == wanted)?;
+    }
+    Ok(())
 }
 
 fn walks() -> Checked {

@@ -1,4 +1,4 @@
--- 01, "Checked by hand": the cases that are proved, in one table, proved as a whole. Assumes nothing.
+-- 01, "Checked by hand", and 02, order 5: the cases that are proved, in one table, proved as a whole. Assumes nothing.
 use Prim.Native.Nat.{ℕ}
 use mathlib.Core.Path.{_≡_, refl, ap}
 use mathlib.Core.Bool.{Bool, true, false, _&&_, cond}
@@ -15,7 +15,7 @@ use Rattle.fields.specs.Fields.{fieldOf, packedBit, padded, packed, spare}
 use Rattle.files.specs.Matrix.{bit, p, total, ones-in}
 use Rattle.files.specs.Files.{fileLength, headerBytes, matrixFile, sizesOf, headerOf, unpacked, bodyOf, matrixOf, readOf, writeOf}
 use Rattle.fields.specs.Strings.{stringsOf}
-use Rattle.weights.specs.Weights.{sum, share, built, buildOf}
+use Rattle.weights.specs.Weights.{counted, sum, share, built, buildOf}
 use Rattle.programs.specs.declared.description.Program.{Program}
 use Rattle.programs.specs.declared.description.Instruction.{Instruction}
 use Rattle.programs.specs.declared.description.Instruction.the-variants.{Ones, Zero, Input, Not, And, Or, Output}
@@ -32,7 +32,7 @@ use Rattle.compiler.specs.Translation.{translation, program, compiled, compileO
 use Rattle.walk.specs.Walk.{at, scan, then, walk, drawn, used, Spending, walkOf}
 use Rattle.lanes.specs.Samples.{code}
 use Rattle.weights.specs.declared.building.Usage.{Usage}
-use Rattle.weights.specs.declared.building.Usage.the-variants.{Plain}
+use Rattle.weights.specs.declared.building.Usage.the-variants.{Plain, Signed}
 
 -- an operation on what it is given, with room enough for its result
 pub data Operation : Type 0 where
@@ -104,14 +104,20 @@ cases =
     -- rows 10, 10, 01: refusal 6
     ∷ (writes 3 2 (1 ∷ 0 ∷ 1 ∷ 0 ∷ 0 ∷ 1 ∷ []) ⇒ refused 6)
     ∷ (reads too-much ⇒ refused 6)
-    -- weights 1, 1, 1 with n = 2: rows 01, 01, 01
+    -- weights 1, 1, 1 with n = 2, for plain use: rows 01, 01, 01
     ∷ (builds Plain (1 ∷ 1 ∷ 1 ∷ []) 2 ⇒ gives (0 ∷ 1 ∷ 0 ∷ 1 ∷ 0 ∷ 1 ∷ []))
     -- and 11 misses
     ∷ (builds-walks Plain (1 ∷ 1 ∷ 1 ∷ []) 2 (0xc0 ∷ []) ⇒ gives (255 ∷ 2 ∷ []))
-    -- weight 5 alone, n = 3: row 111
+    -- for signed use (02, order 5): rows 00, 01, 01
+    ∷ (builds Signed (1 ∷ 1 ∷ 1 ∷ []) 2 ⇒ gives (0 ∷ 0 ∷ 0 ∷ 1 ∷ 0 ∷ 1 ∷ []))
+    -- weight 5 alone, n = 3: row 111, for either use
     ∷ (builds Plain (5 ∷ []) 3 ⇒ gives (1 ∷ 1 ∷ 1 ∷ []))
-    -- weights 0, 0: refusal 11
+    ∷ (builds Signed (5 ∷ []) 3 ⇒ gives (1 ∷ 1 ∷ 1 ∷ []))
+    -- weights 0, 5 for signed use, n = 3: rows 000, 111
+    ∷ (builds Signed (0 ∷ 5 ∷ []) 3 ⇒ gives (0 ∷ 0 ∷ 0 ∷ 1 ∷ 1 ∷ 1 ∷ []))
+    -- weights 0, 0: refusal 11, for either use
     ∷ (builds Plain (0 ∷ 0 ∷ []) 1 ⇒ refused 11)
+    ∷ (builds Signed (0 ∷ 0 ∷ []) 1 ⇒ refused 11)
     ∷ []
 
 -- the row of a walk, or 255, and the columns that it has used
@@ -170,7 +176,7 @@ all-come (c ∷ cs) e =
 pub cases-hold : All-come cases
 unfolding three-rows too-much one-row two-rows listed listing cases comes all-agree agrees same toldOf numbersOf sumTo any number digit
     blocks upto fieldOf packedBit padded packed spare bit p total ones-in headerBytes matrixFile sizesOf headerOf unpacked bodyOf matrixOf
-    readOf writeOf sum share built buildOf stringsOf at scan then walk drawn used walkOf recordBytes instructionBytes decodeOf sizedOf
-    codeBytes programFile programHeaderOf programHeader programNumbers programLimits exec checkOf codeOf instructionOf also startOn runOf
-    bitsToWrite rowBits ifSet marks liveBefore column translation program compiled compileOf
+    readOf writeOf counted sum share built buildOf stringsOf at scan then walk drawn used walkOf recordBytes instructionBytes decodeOf
+    sizedOf codeBytes programFile programHeaderOf programHeader programNumbers programLimits exec checkOf codeOf instructionOf also startOn
+    runOf bitsToWrite rowBits ifSet marks liveBefore column translation program compiled compileOf
 cases-hold = all-come cases refl

@@ -10,6 +10,7 @@ pub mod Values
 pub mod Parts
 pub mod Wide
 pub mod WideDraws
+pub mod Signed
 pub mod Lookups
 pub mod Foreign
 pub mod Cases

@@ -250,8 +250,8 @@ module _ (T : Table) where
     unfolding count
     none = over-none (strings n)
 
-    -- a value's count is the table's
-    pub times-is : (z : ℤ) → natAbs z ≤ 127 → times T P z ≡ signedCount T z
+    -- the count of every number but the miss is the table's
+    pub times-is : (z : ℤ) → (z ≡ pos 32767 → ⊥) → times T P z ≡ signedCount T z
     unfolding hits
     times-is (pos zero) h =
         by-signs (pos 0) (λ s. hits 0 (drawn M s)) (λ s. hits 0 (drawn M s)) (λ s. plus (drawn M s)) (λ s. minus (drawn M s)) ∙
@@ -271,12 +271,12 @@ module _ (T : Table) where
       where
         plus : (d : Drawn) → sameZ (signedCode 0 (answerOf d)) (pos (suc v)) ≡ hits (suc v) d
         plus (hit u c) = refl
-        plus miss = ne-eqb 32767 (suc v) (λ e. omega arith)
+        plus miss = ne-eqb 32767 (suc v) (λ e. h (ap pos (sym e)))
 
         minus : (d : Drawn) → sameZ (signedCode 1 (answerOf d)) (pos (suc v)) ≡ false
         minus (hit zero c) = ne-eqb 0 (suc v) (λ e. omega arith)
         minus (hit (suc u) c) = refl
-        minus miss = ne-eqb 32767 (suc v) (λ e. omega arith)
+        minus miss = ne-eqb 32767 (suc v) (λ e. h (ap pos (sym e)))
     times-is (negsuc v) h =
         by-signs (negsuc v) (λ s. false) (λ s. hits (suc v) (drawn M s)) (λ s. plus (drawn M s)) (λ s. minus (drawn M s)) ∙
         omega (arith, hits-every M (accepts T) (suc v), none)

@@ -23,7 +23,7 @@ once n x h =
     sum-one n x (λ i. 1) (λ i. one-if (eqb x i)) (ap one-if (eq-eqb x x refl)) (λ i ne. ap one-if (ne-eqb x i (λ e. ne (sym e)))) h)
 
 -- by the sign of what is counted
-by-sign : (b : ℕ) (g : ℤ → ℕ) →
+pub by-sign : (b : ℕ) (g : ℤ → ℕ) →
     over (valuesTo b) g ≡ over (upto b (λ i. i)) (λ i. g (negsuc i)) + over (upto (suc b) (λ i. i)) (λ i. g (pos i))
 unfolding valuesTo
 by-sign b g =

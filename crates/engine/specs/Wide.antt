@@ -150,6 +150,10 @@ each-values Q h =
     let each = values-small 127 in
     each-fours small small small small Q values values values values h each each each each
 
+-- the count of a value is its table's
+table-times : (Q : Table) (R : Part Q) (z : ℤ) → natAbs z ≤ 127 → times Q R z ≡ signedCount Q z
+table-times Q R z h = times-is Q R z (λ e. omega (arith, ap natAbs e))
+
 -- ---- four tables
 module _ (first second : ℕ) (T : Four Table) (choose : (q : Four Pick) → AllChosen T q) where
   abbrev walkResult : Four Pick → ℤ
@@ -210,7 +214,12 @@ module _ (first second : ℕ) (T : Four Table) (choose : (q : Four Pick) → All
       over-eq _ _ (fours values values values values)
       (each-values _
       (λ a b c d i j k l.
-      rw (times-is (T .x1) (P .x1) a i, times-is (T .x2) (P .x2) b j, times-is (T .x3) (P .x3) c k, times-is (T .x4) (P .x4) d l)))
+      rw (
+        table-times (T .x1) (P .x1) a i,
+        table-times (T .x2) (P .x2) b j,
+        table-times (T .x3) (P .x3) c k,
+        table-times (T .x4) (P .x4) d l,
+      )))
 
   -- ---- misses
   abbrev missed : Table → Pick → Bool

@@ -1,4 +1,5 @@
-// 01, "Checked by hand": 128 rows are accepted, 129 are refusal 3; as a file that is read, as entries that are written, and as weights.
+// 01, "Checked by hand": 128 rows are accepted, 129 are refusal 3; as a file that is read, as entries that are written, and as weights for
+// either use.
 use fields::Written;
 use files::Checked;
 use libc::STDOUT_FILENO;
@@ -56,16 +57,17 @@ fn write_cases() {
     print_written(files::write(129, 1, &entries, &mut file));
 }
 
-fn build_cases() {
+fn build_cases(usage: Usage) {
     let weights = [1u32; 129];
     let mut file = [0u8; 136];
-    print_written(weights::build(&weights[..128], 8, Usage::Plain, &mut file));
+    print_written(weights::build(&weights[..128], 8, usage, &mut file));
     print_checked(files::check(&file));
-    print_written(weights::build(&weights, 8, Usage::Plain, &mut file));
+    print_written(weights::build(&weights, 8, usage, &mut file));
 }
 
 fn main() {
     read_cases();
     write_cases();
-    build_cases();
+    build_cases(Usage::Plain);
+    build_cases(Usage::Signed);
 }

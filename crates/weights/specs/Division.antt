@@ -4,14 +4,14 @@ use mathlib.Core.Path.{_≡_, refl, sym, ap, _∙_}
 use mathlib.Core.Bool.{Bool, true, false}
 use mathlib.Core.Logic.{⊎-elim}
 use native.Mathlib.Omega.{arith}
-use native.Mathlib.Nat.{pow-succ', add-zero, add-suc, eq-or-lt-of-le, le-trans, le-of-mul-le-mul-right, mul-le-mul-right}
+use native.Mathlib.Nat.{pow-succ', add-zero, add-suc, eq-or-lt-of-le, le-trans, le-of-mul-le-mul-right, mul-le-mul-left, mul-le-mul-right}
 use native.Mathlib.Nat.{min-le-left, min-le-right, le-min, div-mul-le-self, le-div-iff-mul-le}
 use native.Mathlib.Numerals.{add-one}
 use borrow.Author.Tests.{le-leb, lt-leb, leb-true, leb-false}
 use lib.Arith.{digits-div}
 use lib.Dec.{leb}
 use lib.Pow.{pow-pos}
-use Rattle.laws.specs.Tests.{reached}
+use Rattle.laws.specs.Tests.{reached, lt-or-ge}
 use Rattle.laws.specs.Digits.{number, number-more, number-lt, number-shift, digit, digit-number}
 use Rattle.fields.specs.Fields.{padded, padded-below, padded-above, padded-both}
 use Rattle.weights.specs.Weights.{share, next-rest, next-bit, rest-after, quotient, Stepped}
@@ -135,11 +135,38 @@ share-largest n w s z =
       largest = λ y h l. le-min (le-div-iff-mul-le z .1 l) (omega arith);
     }
 
+-- and at most one is missing, where w is at most s
+pub largest-near : (n w s x : ℕ) → w ≤ s → Largest n w s x → 2 ^ n * w ≤ (x + 1) * s
+largest-near n w s x h a =
+    ⊎-elim (λ (l : x + 1 < 2 ^ n). ⊎-elim (λ (q : 2 ^ n * w < (x + 1) * s). omega arith)
+    (λ (q : (x + 1) * s ≤ 2 ^ n * w). absurd (omega (arith, a .largest (x + 1) l q))) (lt-or-ge (2 ^ n * w) ((x + 1) * s)))
+    (λ (l : 2 ^ n ≤ x + 1). le-trans (mul-le-mul-left (2 ^ n) h) (mul-le-mul-right s l))
+    (lt-or-ge (x + 1) (2 ^ n))
+
+-- a weight that has all of s gives 2^n - 1
+pub share-all : (n s : ℕ) → 0 < s → share n s s ≡ 2 ^ n - 1
+unfolding share
+share-all n s z =
+    let q : 2 ^ n * s / s ≡ 2 ^ n = rw (← add-zero (2 ^ n * s)) (digits-div (2 ^ n) z) in
+    rw q (omega arith)
+
 pub largest-one : (n w s x y : ℕ) → Largest n w s x → Largest n w s y → x ≡ y
 largest-one n w s x y a b =
     let l : x ≤ y = b .largest x (a .fits) (a .not-above) in
     let g : y ≤ x = a .largest y (b .fits) (b .not-above) in
     omega arith
+
+-- twice the weight of twice the sum is the same share
+pub share-double : (n w s : ℕ) → 0 < s → share n (2 * w) (2 * s) ≡ share n w s
+share-double n w s z =
+    let a = share-largest n (2 * w) (2 * s) (omega arith) in
+    largest-one n w s (share n (2 * w) (2 * s)) (share n w s)
+    (record {
+      fits = a .fits;
+      not-above = omega (arith, a .not-above);
+      largest = λ y h l. a .largest y h (omega arith);
+    })
+    (share-largest n w s z)
 
 -- ---- the eight steps of a byte, turn by turn
 pub rest-none : (s w : ℕ) → w ≡ rest-after s w 0

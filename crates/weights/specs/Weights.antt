@@ -1,4 +1,5 @@
--- 01, "Matrix and walk", "Weights": the matrix of a list of weights, and the long division that finds it. Assumes nothing.
+-- 01, "Matrix and walk", "Weights", with 02, order 5: the matrix of a list of weights, and the long division that finds it. Assumes
+-- nothing.
 use Prim.Native.Nat.{ℕ, zero, suc, _-_, _*_, _/_, _^_, _≤_, min}
 use mathlib.Core.Path.{_≡_}
 use mathlib.Core.Bool.{cond}
@@ -13,10 +14,14 @@ use Rattle.fields.specs.Limits.{outside, most-columns}
 use Rattle.files.specs.Matrix.{Matrix, tabled, most-rows}
 use Rattle.files.specs.Files.{matrixFile, fileLength}
 use Rattle.weights.specs.declared.building.Usage.{Usage}
+use Rattle.weights.specs.declared.building.Usage.the-variants.{Plain, Signed}
 
--- weight w of sample or distance v, as it counts in S and for its row: the same for both uses
-abbrev pub counted : Usage → ℕ → ℕ → ℕ
-counted usage v w = w
+-- weight w of sample or distance v, as it counts in S and for its row. For signed use a distance other than 0 is that of two values, and
+-- its weight counts for both (02, order 5).
+unfoldable pub counted : Usage → ℕ → ℕ → ℕ
+counted Plain v w = w
+counted Signed zero w = w
+counted Signed (suc v) w = 2 * w
 
 -- S
 unfoldable pub sum : Usage → List ℕ → ℕ
@@ -26,7 +31,7 @@ sum usage weights = sumTo (length weights) (λ v. counted usage v (getD weights 
 unfoldable pub share : ℕ → ℕ → ℕ → ℕ
 share n w s = min (2 ^ n * w / s) (2 ^ n - 1)
 
--- the matrix whose row v is the share of weight v
+-- the matrix whose row v is the share of weight v as it counts
 unfoldable pub built : Usage → List ℕ → ℕ → Matrix
 built usage weights n =
     tabled (length weights) n (λ v. digit n (share n (counted usage v (getD weights v 0)) (sum usage weights)))

@@ -22,11 +22,14 @@ pub enum Usage {
     Signed,
 }
 
-// Weight v as it counts in S and for its row.
+// Weight v as it counts in S and for its row: for signed use that of a distance other than 0 for both signs (02, order 5).
 fn counted_weight(usage: Usage, v: usize, w: u32) -> u64
     ensures { λ r. ⌜ r ≡ counted usage v w ⌝ }
 {
-    w as u64
+    match usage {
+        Usage::Plain => w as u64,
+        Usage::Signed => { if v == 0 { w as u64 } else { 2 * (w as u64) } }
+    }
 }
 
 // S, the sum of the weights as they count.

@@ -9,6 +9,7 @@ mod foreign;
 pub mod line;
 mod runs;
 mod sound;
+mod weights;
 mod wide;
 mod worked;
 
@@ -32,12 +33,14 @@ pub fn each_given(scale: usize, mut visit: impl FnMut(&str)) {
     sound::fixed(&mut Random::new(SEED), &mut put);
     wide::fixed(&mut Random::new(SEED), &mut put);
     cumulative::fixed(&mut Random::new(SEED), &mut put);
+    weights::fixed(&mut put);
     if scale > 1 {
         damaged::thorough(&mut put);
         foreign::thorough(&mut put);
         runs::thorough(&mut put);
         wide::thorough(&mut put);
         cumulative::thorough(&mut put);
+        weights::thorough(&mut put);
     }
     for round in 1..=scale {
         let random = &mut Random::new(SEED + round as u64);
@@ -46,5 +49,6 @@ pub fn each_given(scale: usize, mut visit: impl FnMut(&str)) {
         damaged::round(random, &mut put);
         wide::round(random, &mut put);
         cumulative::round(random, &mut put);
+        weights::round(random, &mut put);
     }
 }

@@ -8,7 +8,7 @@ use crate::matrix::{file_length, Matrix};
 
 /// Sizes around the limits of rows and columns, and sizes that a field of 16 bits, or a number of
 /// 32, would take for sound ones.
-const EDGES: [usize; 10] = [
+pub const EDGES: [usize; 10] = [
     0,
     1,
     127,
@@ -45,7 +45,7 @@ fn program_of(texts: &[&str]) -> Vec<u8> {
 }
 
 /// All the strings of so many bits in turn, one a lane.
-fn in_turn(bits: usize) -> Vec<u8> {
+pub fn in_turn(bits: usize) -> Vec<u8> {
     (0..64u8).map(|lane| lane << (8 - bits)).collect()
 }
 

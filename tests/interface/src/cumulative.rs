@@ -3,7 +3,7 @@
 use crate::inputs::{length, outside, Stock, SIXTEEN_BITS};
 use crate::matrices::some_file;
 use crate::memory::Memory;
-use crate::trial::{fail, Trial};
+use crate::trial::{fail, must, Trial};
 use reference::cumulative::{LEAST_NUMBERS, MOST_NUMBERS, MOST_TABLE_COLUMNS};
 use reference::lent;
 use reference::matrix::{file_length, Matrix};
@@ -206,13 +206,6 @@ pub fn compare() {
     tables_are_refused(random);
     files_are_refused(random);
     samples_are_found(random);
-}
-
-/// Ends the tests where a number is another.
-fn must(what: &str, wanted: u32, returned: u32) {
-    if returned != wanted {
-        fail(&format!("{what} returns {returned}, and 02 says {wanted}"));
-    }
 }
 
 /// Import refuses each table with room for a file and without, and lookup with any r within; with an r outside it is 3.

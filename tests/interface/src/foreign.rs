@@ -29,7 +29,7 @@ const OF_MATRIX: [(&str, Call); 5] = [
         spent_on(trial, random, file, &[])
     }),
     ("compile", |trial, random, file| {
-        compile_on(trial, random, file, 0)
+        compile_on(trial, random, file, 0).0
     }),
     ("export", |trial, random, file| {
         export_on(trial, random, file, 0)
@@ -49,7 +49,7 @@ const OF_PROGRAM: [(&str, Call); 5] = [
         draw_on(trial, random, file, &[], 0)
     }),
     ("draw_signed", |trial, random, file| {
-        draw_signed_on(trial, random, file, &[], 0)
+        draw_signed_on(trial, random, file, &[], 0, 0).0
     }),
 ];
 

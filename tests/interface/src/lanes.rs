@@ -169,24 +169,25 @@ pub fn draw_on(
 
 pub fn draw_signed(trial: &mut Trial, random: &mut Random, stock: &Stock) {
     let (program, strings, samples) = some_draw(random, stock);
-    draw_signed_on(trial, random, &program, &strings, samples);
+    let sign = some_sign(random);
+    draw_signed_on(trial, random, &program, &strings, sign, samples);
 }
 
-/// Draws with some sign word.
+/// Draws with a sign word. Returns the samples too, as they are left.
 pub fn draw_signed_on(
     trial: &mut Trial,
     random: &mut Random,
     program: &[u8],
     strings: &[u8],
+    sign: u64,
     samples: usize,
-) -> u32 {
-    let sign = some_sign(random);
+) -> (u32, Vec<i16>) {
     let mut memory = Memory::new(random);
     memory.note("sign", sign);
     let program = memory.lend("program", program);
     let strings = memory.lend("strings", strings);
     let samples = memory.room("samples", samples);
-    trial.compare(
+    let returned = trial.compare(
         &memory,
         |view| unsafe {
             let (program, strings) = (view.slice(program), view.slice(strings));
@@ -203,5 +204,7 @@ pub fn draw_signed_on(
                 samples.length,
             )
         },
-    )
+    );
+    // SAFETY: the block that is left lives, and nothing else uses it.
+    (returned, unsafe { trial.left().slice(samples) }.to_vec())
 }

@@ -16,6 +16,7 @@ mod programs;
 mod stack;
 mod table;
 mod trial;
+mod weights;
 mod wide;
 mod wrappers;
 
@@ -50,10 +51,18 @@ const fn operation(
     }
 }
 
-const OPERATIONS: [Operation; 19] = [
+const OPERATIONS: [Operation; 20] = [
     operation("read", matrices::read, &[1, 2, 3, 4, 5, 6, 13]),
     operation("write", matrices::write, &[3, 5, 6, 13]),
-    operation("build", matrices::build, &[3, 11, 13]),
+    // Each list is built twice.
+    Operation {
+        cases: 60_000,
+        ..operation("build", weights::build, &[3, 11, 13])
+    },
+    Operation {
+        cases: 2_000,
+        ..operation("build, draw ..", weights::draws, &[])
+    },
     operation("walk", matrices::walk, &[1, 2, 3, 4, 5, 6, 13]),
     operation("spent", matrices::spent, &[1, 2, 3, 4, 5, 6, 13]),
     operation("compile", matrices::compile, &[1, 2, 3, 4, 5, 6, 13]),
@@ -92,6 +101,7 @@ fn main() {
     wrappers::compare();
     foreign::compare();
     cumulative::compare();
+    weights::compare();
     let stock = Stock::new(&mut Random::new(seed));
     let numbers: Vec<String> = (1..ANSWERS).map(|refusal| refusal.to_string()).collect();
     print_row("operation", "stack", "cases", "done", &numbers);

@@ -1,7 +1,7 @@
-//! The operations on matrix files: read, write, build, walk, spent, compile.
+//! The operations on matrix files: read, write, walk, spent, compile.
 
 use crate::faults::{of_matrix, some_faults};
-use crate::inputs::{fit, length, matrix, outside, set_spare_bit, Stock, SIXTEEN_BITS};
+use crate::inputs::{fit, length, matrix, outside, set_spare_bit, Stock};
 use crate::lanes::string_faults;
 use crate::memory::Memory;
 use crate::trial::Trial;
@@ -25,7 +25,8 @@ pub fn read(trial: &mut Trial, random: &mut Random, stock: &Stock) {
     read_on(trial, random, &file, entries);
 }
 
-/// Reads a file into room for so many entries. Returns the number that engine and reference return, as each function `.._on` does.
+/// Reads a file into room for so many entries. Returns the number that engine and reference return, as each function `.._on` does; some
+/// return besides what is left.
 pub fn read_on(trial: &mut Trial, random: &mut Random, file: &[u8], entries: usize) -> u32 {
     let mut memory = Memory::new(random);
     let file = memory.lend("file", file);
@@ -135,59 +136,6 @@ pub fn write(trial: &mut Trial, random: &mut Random, stock: &Stock) {
     );
 }
 
-/// A number from 1 to 128: mostly a small one.
-fn some_size(random: &mut Random) -> usize {
-    let (small, any) = (random.between(1, 9), random.between(1, 128));
-    random.pick(&[small, small, small, small, any, 1, 127, 128])
-}
-
-/// Weights: sound, all 0, none or too many.
-fn some_weights(random: &mut Random) -> Vec<u32> {
-    let number = some_size(random);
-    let more = random.pick(&[200, 256 + number, SIXTEEN_BITS + number]);
-    let refused = random.pick(&[0, 0, 0, MOST_ROWS + 1, MOST_ROWS + 1, MOST_ROWS + 1, more]);
-    match random.below(12) {
-        0 => vec![0; number],
-        1 => vec![0; refused],
-        2 => random::weights(random, refused),
-        _ => random::weights(random, number),
-    }
-}
-
-pub fn build(trial: &mut Trial, random: &mut Random, _: &Stock) {
-    let weights = some_weights(random);
-    let mut columns = some_size(random);
-    let needed = file_length(weights.len().min(MOST_ROWS), columns);
-    if random.once_in(8) {
-        columns = outside(random, MOST_COLUMNS);
-    }
-    let is_signed = random.bit() == 1;
-    let mut memory = Memory::new(random);
-    memory.note("columns", columns as u64);
-    memory.note("is_signed", u64::from(is_signed));
-    let weights = memory.lend("weights", &weights);
-    let file = memory.room("file", length(random, needed, 5));
-    let written = memory.number("length");
-    trial.compare(
-        &memory,
-        |view| unsafe {
-            let (file, written) = (view.slice_mut(file), view.number(written));
-            lent::build(view.slice(weights), columns, is_signed, file, written)
-        },
-        |table, view| unsafe {
-            (table.build)(
-                view.pointer(weights),
-                weights.length,
-                columns,
-                is_signed,
-                view.pointer(file),
-                file.length,
-                view.pointer(written),
-            )
-        },
-    );
-}
-
 pub fn walk(trial: &mut Trial, random: &mut Random, stock: &Stock) {
     let (file, matrix) = some_file(random, stock);
     let mut string = pack(&random::string(random, &matrix));
@@ -263,13 +211,18 @@ pub fn compile(trial: &mut Trial, random: &mut Random, stock: &Stock) {
     compile_on(trial, random, &file, program);
 }
 
-/// Compiles a file into room for a program of so many bytes.
-pub fn compile_on(trial: &mut Trial, random: &mut Random, file: &[u8], program: usize) -> u32 {
+/// Compiles a file into room for a program of so many bytes. Returns the program too.
+pub fn compile_on(
+    trial: &mut Trial,
+    random: &mut Random,
+    file: &[u8],
+    program: usize,
+) -> (u32, Vec<u8>) {
     let mut memory = Memory::new(random);
     let file = memory.lend("file", file);
     let program = memory.room("program", program);
     let written = memory.number("length");
-    trial.compare(
+    let returned = trial.compare(
         &memory,
         |view| unsafe {
             let (program, written) = (view.slice_mut(program), view.number(written));
@@ -284,5 +237,6 @@ pub fn compile_on(trial: &mut Trial, random: &mut Random, file: &[u8], program: 
                 view.pointer(written),
             )
         },
-    )
+    );
+    (returned, trial.laid(returned, program, written))
 }

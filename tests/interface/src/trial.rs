@@ -1,6 +1,6 @@
 //! One operation on trial: each case is given to the reference and, both ways, to the engine, and all that they leave is compared.
 
-use crate::memory::{Memory, View};
+use crate::memory::{Lent, Memory, View};
 use crate::stack::{Stack, LIMIT};
 use crate::table::{Table, TABLES};
 use reference::lent::DONE;
@@ -13,6 +13,13 @@ pub const ANSWERS: usize = 17;
 pub fn fail(what: &str) -> ! {
     println!("{what}");
     std::process::exit(1)
+}
+
+/// Ends the tests where a function returns another number than it must.
+pub fn must(what: &str, wanted: u32, returned: u32) {
+    if returned != wanted {
+        fail(&format!("{what} returns {returned}, and not {wanted}"));
+    }
 }
 
 /// What was tried.
@@ -106,6 +113,16 @@ impl Trial {
     /// What the last case left, the same for all.
     pub fn left(&mut self) -> View {
         View::of(&mut self.expected)
+    }
+
+    /// The file that the last case laid down at the front of its room; nothing where it was refused.
+    pub fn laid(&mut self, returned: u32, room: Lent<u8>, length: Lent<usize>) -> Vec<u8> {
+        if returned != DONE {
+            return Vec::new();
+        }
+        let view = self.left();
+        // SAFETY: the block that is left lives, and nothing else uses it.
+        unsafe { view.slice(room)[..*view.number(length)].to_vec() }
     }
 
     /// Ends the tests with a difference that was found.

@@ -73,7 +73,9 @@ fn matrices(sound: &Matrix, file: &[u8]) {
         write(if is_sound { 3 } else { 0 }, &sound.entries)
     });
     both("build", |sound| {
-        build(if sound { &[1, 5, 3] } else { &[0, 0, 0] })
+        let weights = if sound { &[1, 5, 3] } else { &[0, 0, 0] };
+        let plain = build(weights, false);
+        build(weights, true) && plain
     });
 }
 
@@ -102,11 +104,11 @@ fn write(rows: usize, entries: &[u8]) -> bool {
     same("write", (answer, left), (returned, length, wanted))
 }
 
-fn build(weights: &[u32]) -> bool {
+fn build(weights: &[u32], signed: bool) -> bool {
     let (mut left, mut wanted) = ([7; 20], [7; 20]);
     let mut length = 0;
-    let answer = binding::build(weights, 11, true, &mut left);
-    let returned = lent::build(weights, 11, true, &mut wanted, &mut length);
+    let answer = binding::build(weights, 11, signed, &mut left);
+    let returned = lent::build(weights, 11, signed, &mut wanted, &mut length);
     same("build", (answer, left), (returned, length, wanted))
 }
 

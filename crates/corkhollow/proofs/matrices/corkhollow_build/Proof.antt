@@ -9,13 +9,13 @@ use Rattle.corkhollow.proofs.matrices.corkhollow_build.Tie as tie
 returns : tie.Need-returns
 returns c =
     let called = c .before .before .before .before .before .before in
-    rw (← called .before .before .usage-of .ensures)
-    (writes written _ _ (c .before .before .why .given .1) (search) (c .number .ensures) refl)
+    writes written _ _ (c .before .before .why .given .1) (rw (called .before .before .usage-of .ensures) at (called .build .ensures))
+    (c .number .ensures) refl
 
 returns-2 : tie.Need-returns-2
 returns-2 c =
     let called = c .before .before .before .before .before in
-    rw (← called .before .before .usage-of .ensures) (writes written _ _ (c .before .built .given .1) (search) refl refl)
+    writes written _ _ (c .before .built .given .1) (rw (called .before .before .usage-of .ensures) at (called .build .ensures)) refl refl
 
 pub corkhollow-build-spec : {M : Type 1} → statement M
 corkhollow-build-spec =

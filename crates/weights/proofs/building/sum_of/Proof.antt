@@ -6,12 +6,13 @@ use Prim.Native.Nat.{_-_, _*_, _≤_}
 use lib.ListN.{length, getD}
 use Rattle.laws.specs.Sums.{sumTo, sum-turn, sum-done}
 use Rattle.weights.specs.Weights.{counted, sum}
+use Rattle.weights.specs.Uses.{counted-small}
 use Rattle.weights.proofs.building.sum_of.Statement.{statement}
 use Rattle.weights.proofs.building.sum_of.Tie as tie
 
 abbrev Inv-loop : tie.InvT-loop
 Inv-loop usage weights s₀ v₀ v-end s v =
-    (v ≤ length weights) × (s ≡ sumTo v (λ v. counted usage v (getD weights v 0))) × (s ≤ v * 4294967296)
+    (v ≤ length weights) × (s ≡ sumTo v (λ v. counted usage v (getD weights v 0))) × (s ≤ v * 8589934590)
 
 abbrev μ-loop : tie.MeasureT-loop
 μ-loop usage weights s₀ v₀ v-end s v = length weights - v
@@ -20,19 +21,21 @@ loop-holds : tie.Need-loop-holds Inv-loop μ-loop
 unfolding sumTo
 loop-holds c = search needs
 
-add-s : tie.Need-add-s Inv-loop μ-loop
-add-s c =
+-- a weight as it counts has 33 bits
+small : (c : tie.After-counted-weight Inv-loop μ-loop) → c .counted-weight .result ≤ 8589934590
+small c =
     let read = c .before in
-    record { fits = omega (arith, read .shared-slice-known2 .given (read .before .before .loop .v), c .counted-weight .ensures) }
+    counted-small _ _ _ _ (c .counted-weight .ensures) ((read .shared-slice-known2 .given (read .before .before .loop .v)) .fits)
+
+add-s : tie.Need-add-s Inv-loop μ-loop
+add-s c = record { fits = omega (arith, small c) }
 
 loop-again : tie.Need-loop-again Inv-loop μ-loop
-loop-again c =
-    let read = c .before in
-    let at = read .before .before .loop in (
-      search needs,
-      sum-turn _ _ _ _ (c .counted-weight .ensures) (at .inv .1),
-      omega (arith, read .shared-slice-known2 .given (at .v), c .counted-weight .ensures),
-    )
+loop-again c = (
+  search needs,
+  sum-turn _ _ _ _ (c .counted-weight .ensures) (c .before .before .before .loop .inv .1),
+  omega (arith, small c),
+)
 
 returns : tie.Need-returns Inv-loop μ-loop
 unfolding sum
