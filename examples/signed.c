@@ -4,7 +4,8 @@
  * each; 0 has only one sign, and no weight is halved or doubled for it. The last line compares the share of 0 with that which it would have
  * if the same weights were built for plain use. The progress goes to standard error, where that is a terminal.
  *
- * Weights of 32 bits cut the curve where it falls below 2^-32 of its height. An exact table, as `table` makes it, has no such cut.
+ * Weights of 32 bits cut the curve where it falls below 2^-32 of its height. An exact table, as `table` makes it with 128 columns, cuts it
+ * only where its share falls below 2^-128.
  */
 #include <math.h>
 
@@ -20,6 +21,7 @@ _Static_assert(SAMPLES % CORKHOLLOW_LANES == 0, "a batch is drawn whole");
 
 static struct bell bell;
 static uint32_t weights[CORKHOLLOW_ROWS];
+static double curve[BELL_VALUES];   /* the curve's own share of value v, at BELL_MOST + v */
 static uint32_t drawn[BELL_VALUES]; /* value v is counted at BELL_MOST + v */
 
 /* The curve at v, as a share of its height at 0. */
@@ -39,7 +41,7 @@ static size_t weigh(void) {
 static void expect(void) {
     double all = 0;
     for (int v = -BELL_MOST; v <= BELL_MOST; v++) all += rho(v);
-    for (int v = -BELL_MOST; v <= BELL_MOST; v++) bell.share[BELL_MOST + v] = rho(v) / all;
+    for (int v = -BELL_MOST; v <= BELL_MOST; v++) curve[BELL_MOST + v] = rho(v) / all;
 }
 
 /* The table of the weights for either use; tells its length. */
@@ -66,11 +68,11 @@ int main(void) {
     bell_compile(matrix, length, &bell);
     int missed = bell_tally(&bell, BATCHES, drawn);
     printf("%d signed samples, sigma %g, from a table built of %zu weights with %d columns\n\n", SAMPLES, SIGMA, number, BELL_COLUMNS);
-    chart_print(&(struct chart){.most = BELL_MOST, .width = 1, .expected = bell.share, .drawn = drawn, .samples = SAMPLES});
+    chart_print(&(struct chart){.most = BELL_MOST, .width = 1, .expected = curve, .drawn = drawn, .samples = SAMPLES});
     /* a row is cut by less than one string, or by one where it has all of them */
     printf("misses: %d drawn; at most %zu of the 2^%d strings miss\n", missed, number, BELL_COLUMNS);
     printf("share of 0: %.4f%% drawn, %.4f%% by the curve; built for plain use, the same weights would give it %.4f%%\n",
-           100.0 * drawn[BELL_MOST] / SAMPLES, 100 * bell.share[BELL_MOST], 100 * built_plainly(number));
+           100.0 * drawn[BELL_MOST] / SAMPLES, 100 * curve[BELL_MOST], 100 * built_plainly(number));
     flush_output();
     return 0;
 }

@@ -125,8 +125,10 @@ uint32_t corkhollow_write(size_t rows, size_t columns,
  *
  * For signed use (`is_signed`) weight v is that of the values v and -v, each, and 0 has only one sign: S is weight 0 and twice all others,
  * row 0 is built from weight 0, and every other row v from twice weight v. So every value, 0 too, comes in proportion to its weight, as
- * near as the columns allow. Give the curve's own weights, and halve or double none: whoever has halved weight 0 until now must stop doing
- * so. Draw with corkhollow_draw_signed; corkhollow_draw gives the distances alone.
+ * near as the columns allow. Give the curve's own weights, and halve or double none: whoever passes `is_signed` and halves weight 0, as was
+ * right where `is_signed` had no effect, must stop. Draw with corkhollow_draw_signed; corkhollow_draw gives the distances alone.
+ *
+ * A list that was built for plain use and is drawn with a sign gives 0 twice as often as a value of the same weight.
  *
  * Refusals, in the order tried, the same for both uses: 3 for the number of weights or columns, 11, 13 for `file`.
  */

@@ -397,8 +397,8 @@ pub fn weights(random: &mut Random, number: usize) -> Vec<u32> {
     (0..number).map(|_| weight(random)).collect()
 }
 
-/// Weights by distance: as above, in some lists with 0 in place of the first or of all others, or
-/// with the largest number in place of all but the first, of one or of all, or falling.
+/// Weights by distance: as above, and in some lists the first is 0; or all others are; or all but
+/// the first, or one of them, or all are the largest number; or they fall.
 pub fn distance_weights(random: &mut Random, number: usize) -> Vec<u32> {
     let mut list = weights(random, number);
     let any = random.below(number);

@@ -3,7 +3,7 @@ use Prim.Native.Nat.{ℕ, _+_, _*_, _≤_}
 use mathlib.Core.Path.{_≡_, refl, sym, ap, _∙_}
 use mathlib.Core.List.{List, _++_}
 use native.Mathlib.Omega.{arith}
-use borrow.Author.Tests.{le-leb, ltb-false}
+use borrow.Author.Tests.{le-leb, le-ltb, ltb-false}
 use lib.Dec.{ltb}
 use lib.ListN.{length}
 use Rattle.laws.specs.Lists.{blocks}
@@ -80,3 +80,9 @@ compile-accepted file code room M e c =
     let (N, n, same, fits) = compile-lays file code room c in
     let is : code ≡ compiled M = same ∙ ap compiled (gives-inj (sym n ∙ e)) in
     (is, fits, rw is (compiled-accepted M (read-accepted file M e)))
+
+-- and a matrix file compiles wherever the program of its matrix has room
+pub compile-fits : (file : List ℕ) (room : ℕ) (M : Matrix) → matrixOf file ≡ gives M → length (compiled M) ≤ room →
+    compileOf file room ≡ gives (compiled M)
+unfolding compileOf
+compile-fits file room M e h = rw (e, le-ltb room (length (compiled M)) h)

@@ -5,7 +5,7 @@ use mathlib.Core.Path.{_≡_, refl, sym, ap, _∙_}
 use mathlib.Core.Bool.{true}
 use mathlib.Core.List.{List, _++_}
 use native.Mathlib.Omega.{arith}
-use borrow.Author.Tests.{lt-ltb, le-ltb}
+use borrow.Author.Tests.{lt-ltb}
 use lib.ListN.{length, drop, length-append}
 use Rattle.laws.specs.Sums.{sum-eq}
 use Rattle.laws.specs.Lists.{blocks, blocks-eq}
@@ -26,7 +26,7 @@ use Rattle.compiler.specs.Translation.{rowBits, begin, marks, end, colum
 use Rattle.compiler.specs.Translation.{translation, program, compiled, compileOf}
 use Rattle.compiler.specs.Room.{Roomy, accepted-roomy}
 use Rattle.compiler.specs.Size.{size, whole-length, whole-size, whole-bytes}
-use Rattle.compiler.specs.Compiled.{sound}
+use Rattle.compiler.specs.Compiled.{sound, compile-fits}
 use Rattle.compiler.specs.Emitting.{length-code, Fit, Emitted, emitted-after}
 use Rattle.compiler.specs.EmittingColumns.{packedRows}
 
@@ -206,5 +206,4 @@ module _ (file : List ℕ) {bytes : List ℕ} {m n : ℕ} (behind : bytes ≡ dr
     compile-short h = rw (checked-matrix, lt-ltb room (length (compiled (packedMatrix bytes m n))) (omega (arith, s .all)))
 
     pub compile-gives : long ≤ room → compileOf file room ≡ gives (compiled (packedMatrix bytes m n))
-    unfolding compileOf
-    compile-gives h = rw (checked-matrix, le-ltb room (length (compiled (packedMatrix bytes m n))) (omega (arith, s .all)))
+    compile-gives h = compile-fits file room (packedMatrix bytes m n) checked-matrix (omega (arith, s .all))

@@ -5,7 +5,7 @@ use mathlib.Core.Path.{_≡_, refl, sym, ap, _∙_}
 use mathlib.Core.Bool.{Bool, true, false}
 use mathlib.Core.List.{List}
 use native.Mathlib.Omega.{arith}
-use borrow.Author.Tests.{le-ltb, ltb-true, ltb-false, eq-eqb, ne-eqb}
+use borrow.Author.Tests.{ltb-true, ltb-false, eq-eqb, ne-eqb}
 use lib.Dec.{ltb}
 use lib.ListN.{length}
 use Rattle.laws.specs.Tests.{never}
@@ -24,7 +24,7 @@ use Rattle.cumulative.specs.Lookup.{holds-iff, found-iff, missed-iff, lookup-if
 use Rattle.cumulative.specs.RoundTrip.{sums-rows, sums-difference, sums-cumulative, sums-imported}
 use Rattle.cumulative.specs.Counts.{numbersTo, numbers-within, holds-count, above-count}
 use Rattle.compiler.specs.Translation.{program, compiled, compileOf}
-use Rattle.compiler.specs.Compiled.{compile-accepted}
+use Rattle.compiler.specs.Compiled.{compile-accepted, compile-fits}
 use Rattle.engine.specs.Given.{Choice, Fair, given, says, says-miss}
 use Rattle.engine.specs.Demand3.{demand-3-samples, demand-3-misses}
 
@@ -116,12 +116,11 @@ module _ (T : List ℕ) (n room space : ℕ) (file code : List ℕ) (i : importO
 pub looked-compiles : (T : List ℕ) (n r : ℕ) (a : Answer) (room space : ℕ) → lookupOf T n r ≡ gives a → fileLength (rowsOf T) n ≤ room →
     length (compiled (imported T n)) ≤ space →
     (file : List ℕ) × (importOf T n room ≡ gives file) × (compileOf file space ≡ gives (compiled (imported T n)))
-unfolding compileOf
 looked-compiles T n r a room space l h k =
     let ok = lookup-iff T n r a .0 l .0 in
     let i = import-iff T n room (matrixFile (imported T n)) .1 (ok, h, refl) in
     let read = import-is T n room (matrixFile (imported T n)) i in
-    (matrixFile (imported T n), i, rw (read, le-ltb space (length (compiled (imported T n))) k))
+    (matrixFile (imported T n), i, compile-fits (matrixFile (imported T n)) space (imported T n) read k)
 
 -- ---- and of the table that a matrix file exports as, with the program that this file compiles to
 module _ (file : List ℕ) (room space : ℕ) (t : Table) (code : List ℕ) (x : exportOf file room ≡ gives t)

@@ -14,12 +14,12 @@ use Rattle.laws.specs.Digits.{digit, digit-le}
 use Rattle.laws.specs.Lists.{blocks}
 use Rattle.laws.specs.Lay.{layAt}
 use Rattle.laws.specs.Outcome.{refused, gives, refuse, _>>_, mapped, passed, gives-inj}
-use Rattle.fields.specs.Limits.{most-columns, within, inside}
+use Rattle.fields.specs.Limits.{most-columns, inside}
 use Rattle.fields.specs.Fields.{packed}
 use Rattle.files.specs.Matrix.{Accepted, sizesOutside, bit, p, total, most-rows}
 use Rattle.files.specs.Files.{fileLength, matrixFile, matrixOf, readOf, writeHeaderOf}
 use Rattle.files.specs.Matrices.{tabled-whole, tabled-bit, tabled-bits, numbered-row}
-use Rattle.files.specs.Sizes.{Sized, sizes-refuse}
+use Rattle.files.specs.Sizes.{Sized, sizes-within, sizes-refuse}
 use Rattle.files.specs.Checks.{read-room}
 use Rattle.files.specs.Writing.{with-header, Head, Wrote, ends-unheaded, ends-headed}
 use Rattle.files.specs.RoundTrip.{write-read}
@@ -146,16 +146,13 @@ pub build-iff : (usage : Usage) (weights : List ℕ) (n room : ℕ) (file : List
     (file ≡ matrixFile (built usage weights n)))
 unfolding buildOf
 build-iff usage weights n room file = (
-  (λ e. let c1 = passed 3 _ _ file e in
-      let c2 = passed 3 _ _ file (c1 .1) in
-      let c3 = passed 11 _ _ file (c2 .1) in
-      let c4 = passed 13 (ltb room (fileLength (length weights) n)) _ file (c3 .1) in
-      let r = within most-rows (length weights) (c1 .0) in
-      let c = within most-columns n (c2 .0) in (
-        record { some-rows = r .0; few-rows = r .1; some-columns = c .0; few-columns = c .1 },
-        omega (arith, eqb-false (sum usage weights) 0 (c3 .0)),
-        ltb-false room (fileLength (length weights) n) (c4 .0),
-        sym (gives-inj (c4 .1)),
+  (λ e. let c1 = passed 3 (sizesOutside (length weights) n) _ file (sym (sizes-refuse (length weights) n _) ∙ e) in
+      let c2 = passed 11 (eqb (sum usage weights) 0) _ file (c1 .1) in
+      let c3 = passed 13 (ltb room (fileLength (length weights) n)) _ file (c2 .1) in (
+        sizes-within (length weights) n (c1 .0),
+        omega (arith, eqb-false (sum usage weights) 0 (c2 .0)),
+        ltb-false room (fileLength (length weights) n) (c3 .0),
+        sym (gives-inj (c3 .1)),
       )),
   (λ q. let s = q .0 in
       rw (

@@ -7,10 +7,10 @@ use mathlib.Core.Logic.{_↔_, _⊎_, inr, ⊎-elim}
 use native.Mathlib.Omega.{arith}
 use borrow.Author.Tests.{eq-eqb, ne-eqb, eqb-true, eqb-false}
 use lib.Dec.{eqb, ltb}
-use lib.ListN.{length, getD, length-map}
-use Rattle.laws.specs.Sums.{sumTo, sum-front, sum-times, sum-eq, sum-same, term-le}
+use lib.ListN.{length, getD, length-map, List·getD-map}
+use Rattle.laws.specs.Sums.{sumTo, sum-front, sum-plus, sum-le, term-le}
 use Rattle.laws.specs.Digits.{digit}
-use Rattle.laws.specs.Outcome.{Outcome, gives, refuse, _>>_, mapped}
+use Rattle.laws.specs.Outcome.{Outcome, gives, refuse, _>>_, mapped, mapped-then}
 use Rattle.fields.specs.Limits.{outside, most-columns}
 use Rattle.files.specs.Matrix.{tabled, most-rows}
 use Rattle.files.specs.Files.{matrixFile, fileLength}
@@ -70,11 +70,15 @@ counted-most Plain v w = omega arith
 counted-most Signed zero w = omega arith
 counted-most Signed (suc v) w = omega arith
 
--- so a weight of 32 bits counts as a number of 33
-pub counted-small : (usage : Usage) (v w r : ℕ) → r ≡ counted usage v w → w < 2 ^ 32 → r ≤ 8589934590
+-- so a weight of 32 bits counts as a number of 33 bits at most
+pub counted-small : (usage : Usage) (v w r : ℕ) → r ≡ counted usage v w → w < 2 ^ 32 → r < 2 ^ 33
 counted-small usage v w r e h = omega (arith, counted-most usage v w)
 
 -- ---- S
+-- twice as much of each is twice as much of all
+sum-twice : (m : ℕ) (weight : ℕ → ℕ) → sumTo m (λ v. 2 * weight v) ≡ 2 * sumTo m weight
+sum-twice m weight = omega (arith, sum-plus m (λ v. 2 * weight v) weight weight (λ v. omega arith))
+
 -- for plain use w_0 + w_1 + ..
 pub sum-plain : (w : ℕ) (ws : List ℕ) → sum Plain (w ∷ ws) ≡ w + sum Plain ws
 unfolding sum counted
@@ -84,12 +88,7 @@ sum-plain w ws = sum-front (length ws) (λ v. getD (w ∷ ws) v 0)
 pub sum-signed : (w : ℕ) (ws : List ℕ) → sum Signed (w ∷ ws) ≡ w + 2 * sum Plain ws
 unfolding sum counted
 sum-signed w ws =
-    sum-front (length ws) (λ v. counted Signed v (getD (w ∷ ws) v 0)) ∙
-    omega (
-      arith,
-      sum-eq (length ws) (λ v. 2 * getD ws v 0) (λ v. getD ws v 0 * 2) (λ v l. omega arith),
-      sum-times (length ws) (λ v. getD ws v 0) 2,
-    )
+    sum-front (length ws) (λ v. counted Signed v (getD (w ∷ ws) v 0)) ∙ ap (λ (s : ℕ). w + s) (sum-twice (length ws) (λ v. getD ws v 0))
 
 -- for either use S is 0 exactly where all weights are
 pub weightless-iff : (usage : Usage) (ws : List ℕ) → (sum usage ws ≡ 0) ↔ ((v : ℕ) → v < length ws → getD ws v 0 ≡ 0)
@@ -98,9 +97,9 @@ weightless-iff usage ws = (
   (λ e v h.
       omega (arith, term-le (length ws) v (λ v. counted usage v (getD ws v 0)) h, counted-least usage v (getD ws v 0))),
   (λ e.
-      sum-eq (length ws) (λ v. counted usage v (getD ws v 0)) (λ v. 0)
-      (λ v h. omega (arith, counted-most usage v (getD ws v 0), e v h)) ∙
-      (sum-same (length ws) 0 (λ v. 0) (λ v. refl) ∙ omega arith)),
+      let none : (v : ℕ) → v < length ws → counted usage v (getD ws v 0) ≤ 0 =
+      λ v h. omega (arith, counted-most usage v (getD ws v 0), e v h) in
+      omega (arith, sum-le (length ws) 0 (λ v. counted usage v (getD ws v 0)) none)),
 )
 
 -- ---- what is built
@@ -120,12 +119,7 @@ unfolding counted doubled
 doubled-counts [] zero = refl
 doubled-counts [] (suc v) = refl
 doubled-counts (w ∷ ws) zero = refl
-doubled-counts (w ∷ ws) (suc v) = twice ws v
-  where
-    twice : (xs : List ℕ) (v : ℕ) → 2 * getD xs v 0 ≡ getD (map (λ x. 2 * x) xs) v 0
-    twice [] v = refl
-    twice (x ∷ xs) zero = refl
-    twice (x ∷ xs) (suc v) = twice xs v
+doubled-counts (w ∷ ws) (suc v) = sym (List·getD-map (λ x. 2 * x) ws v 0)
 
 length-doubled : (ws : List ℕ) → length ws ≡ length (doubled ws)
 unfolding doubled
@@ -145,14 +139,6 @@ doubled-each : (m : ℕ) (weight : ℕ → ℕ) (n room : ℕ) → buildEach m (
 unfolding buildEach
 doubled-each m weight n room = go (eqb (sumTo m weight) 0) refl
   where
-    scaled : sumTo m (λ v. 2 * weight v) ≡ 2 * sumTo m weight
-    scaled =
-        omega (
-          arith,
-          sum-eq m (λ v. 2 * weight v) (λ v. weight v * 2) (λ v l. omega arith),
-          sum-times m weight 2,
-        )
-
     -- where 11 does not apply
     past : (ℕ → ℕ → ℕ) → Outcome (List ℕ)
     past bits =
@@ -162,13 +148,13 @@ doubled-each m weight n room = go (eqb (sumTo m weight) 0) refl
     go : (b : Bool) → eqb (sumTo m weight) 0 ≡ b → buildEach m (λ v. 2 * weight v) n room ≡ buildEach m weight n room
     go true e =
         let z = eqb-true (sumTo m weight) 0 e in
-        rw (scaled, e, eq-eqb (2 * sumTo m weight) 0 (omega (arith, z)))
+        rw (sum-twice m weight, e, eq-eqb (2 * sumTo m weight) 0 (omega (arith, z)))
     go false e =
         let z = eqb-false (sumTo m weight) 0 e in
         let some : 0 < sumTo m weight = omega (arith, z) in
         let same : (v : ℕ) → digit n (share n (2 * weight v) (2 * sumTo m weight)) ≡ digit n (share n (weight v) (sumTo m weight)) =
         λ v. ap (digit n) (share-double n (weight v) (sumTo m weight) some) in
-        rw (scaled, e, ne-eqb (2 * sumTo m weight) 0 (λ q. omega (arith, some))) (ap past (fun-ext same))
+        rw (sum-twice m weight, e, ne-eqb (2 * sumTo m weight) 0 (λ q. omega (arith, some))) (ap past (fun-ext same))
 
 -- where 0 has no weight, or no other distance has one, both uses build the same
 pub both-alike : (ws : List ℕ) (n room : ℕ) → (getD ws 0 0 ≡ 0) ⊎ ((v : ℕ) → getD ws (suc v) 0 ≡ 0) →
@@ -204,17 +190,11 @@ answer : (usage : Usage) (ws : List ℕ) (n room : ℕ) → mapped length (build
     (refuse 13 (ltb room (fileLength (length ws) n)) >> gives (fileLength (length ws) n)))))
 unfolding buildOf built
 answer usage ws n room =
-    told (outside most-rows (length ws)) (outside most-columns n) (eqb (sum usage ws) 0) (ltb room (fileLength (length ws) n)) _ _
-    (length-file (built usage ws n))
-  where
-    told : (a b c d : Bool) (bytes : List ℕ) (k : ℕ) → length bytes ≡ k →
-        mapped length (refuse 3 a >> (refuse 3 b >> (refuse 11 c >> (refuse 13 d >> gives bytes)))) ≡
-        (refuse 3 a >> (refuse 3 b >> (refuse 11 c >> (refuse 13 d >> gives k))))
-    told true b c d bytes k e = refl
-    told false true c d bytes k e = refl
-    told false false true d bytes k e = refl
-    told false false false true bytes k e = refl
-    told false false false false bytes k e = ap gives e
+    sym
+    (mapped-then (refuse 3 (outside most-rows (length ws))) _ _ length
+    (mapped-then (refuse 3 (outside most-columns n)) _ _ length
+    (mapped-then (refuse 11 (eqb (sum usage ws) 0)) _ _ length
+    (mapped-then (refuse 13 (ltb room (fileLength (length ws) n))) _ _ length (ap gives (sym (length-file (built usage ws n))))))))
 
 -- it is the same for both uses
 pub answers-alike : (usage usage′ : Usage) (ws : List ℕ) (n room : ℕ) →

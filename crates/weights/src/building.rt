@@ -1,4 +1,4 @@
-// Matrix files from weights (01, "Matrix and walk": "Weights").
+// Matrix files from weights (01, "Matrix and walk": "Weights"; 02, order 5).
 ghost use mathlib.Core.Path.{_≡_};
 ghost use Prim.Native.Nat.{_+_, _*_, _^_, _≤_, _<_};
 ghost use lib.ListN.{length, getD};

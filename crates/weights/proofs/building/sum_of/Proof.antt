@@ -2,7 +2,7 @@
 use borrow.Author.Needs.{needs}
 use native.Mathlib.Omega.{arith}
 use mathlib.Core.Path.{_≡_}
-use Prim.Native.Nat.{_-_, _*_, _≤_}
+use Prim.Native.Nat.{_-_, _*_, _^_, _≤_, _<_}
 use lib.ListN.{length, getD}
 use Rattle.laws.specs.Sums.{sumTo, sum-turn, sum-done}
 use Rattle.weights.specs.Weights.{counted, sum}
@@ -12,7 +12,7 @@ use Rattle.weights.proofs.building.sum_of.Tie as tie
 
 abbrev Inv-loop : tie.InvT-loop
 Inv-loop usage weights s₀ v₀ v-end s v =
-    (v ≤ length weights) × (s ≡ sumTo v (λ v. counted usage v (getD weights v 0))) × (s ≤ v * 8589934590)
+    (v ≤ length weights) × (s ≡ sumTo v (λ v. counted usage v (getD weights v 0))) × (s ≤ v * (2 ^ 33 - 1))
 
 abbrev μ-loop : tie.MeasureT-loop
 μ-loop usage weights s₀ v₀ v-end s v = length weights - v
@@ -21,8 +21,8 @@ loop-holds : tie.Need-loop-holds Inv-loop μ-loop
 unfolding sumTo
 loop-holds c = search needs
 
--- a weight as it counts has 33 bits
-small : (c : tie.After-counted-weight Inv-loop μ-loop) → c .counted-weight .result ≤ 8589934590
+-- a weight as it counts has at most 33 bits
+small : (c : tie.After-counted-weight Inv-loop μ-loop) → c .counted-weight .result < 2 ^ 33
 small c =
     let read = c .before in
     counted-small _ _ _ _ (c .counted-weight .ensures) ((read .shared-slice-known2 .given (read .before .before .loop .v)) .fits)
