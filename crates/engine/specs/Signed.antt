@@ -116,7 +116,7 @@ module _ (usage : Usage) (weights : List ℕ) (n room : ℕ) (file : List ℕ) (
       compileOf file space ≡ gives (compiled (built usage weights n))
   built-compiles space h = compile-fits file space (built usage weights n) (built-is usage weights n room file e) h
 
--- ---- for plain use, as 01 has it for signed use too: 0 comes twice as often as a value of the same weight
+-- ---- for plain use, as 01 builds both: drawn with a sign, 0 comes twice as often as a value of the same weight
 module _ (weights : List ℕ) (n room : ℕ) (file : List ℕ) (e : buildOf Plain weights n room ≡ gives file) where
   abbrev pub plainTable : Table
   plainTable = builtTable Plain weights n room file e
