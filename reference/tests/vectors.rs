@@ -167,6 +167,29 @@ fn weights_are_built_for_both_uses() {
     built(&"f".repeat(8 * 128), "80", "1", &answer);
 }
 
+/// 02, order 6: the fewest and the most rows of each case are compiled, and the samples drawn of
+/// them are those that can be worked out by hand: 64 strings that spell 0 to 63 hit the rows from
+/// m - 1 down.
+#[test]
+fn rows_of_every_case_are_compiled_and_drawn() {
+    let lines = lines(1);
+    for rows in [1, 2, 3, 4, 5, 8, 9, 16, 17, 32, 33, 64, 65, 128u8] {
+        let file = format!(
+            "{:02x}002000{rows:02x}000700{}",
+            8 + rows,
+            "02".repeat(rows.into())
+        );
+        let compiled = format!("5 {file} ");
+        let is_compiled = |line: &String| line.starts_with(&compiled) && line.contains(" = 0 ");
+        assert!(lines.iter().any(is_compiled), "{compiled}.. = 0 ..");
+        let sample = |s: u8| rows.checked_sub(1 + s).unwrap_or(0xff);
+        let samples: String = (0..64).map(|s| format!("{:02x}", sample(s))).collect();
+        let (drawn, answered) = (format!("11 {file} "), format!(" = 0 {samples} "));
+        let is_drawn = |line: &String| line.starts_with(&drawn) && line.contains(&answered);
+        assert!(lines.iter().any(is_drawn), "{drawn}..{answered}..");
+    }
+}
+
 /// README, "How large the fields get": task, field, digits an element (0 for a number), the most.
 const SIZES: [(&str, usize, usize, u64); 45] = [
     ("1", 1, 2, 2_100),

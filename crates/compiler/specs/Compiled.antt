@@ -42,7 +42,7 @@ module _ (M : Matrix) (a : Accepted M) where
   unfolding program translation
   sound =
       let k : ℕ = rowBits (M .rows) in
-      let bits = few-bits (M .rows) (a .some-rows) (a .few-rows) in
+      let bits = few-bits (M .rows) (a .few-rows) in
       let roomy = accepted-roomy M a in
       record {
         limits =

@@ -1,68 +1,81 @@
--- k is the least number of bits that write each row's number, and what code finds by counting leading zeros. Assumes nothing.
+-- k, the bits needed to write m - 1: what these words mean, and the rows for which it is which number (01, "Translation"; 02, order 6).
+-- Assumes nothing.
 use Prim.Native.Nat.{ℕ, zero, suc, _-_, _*_, _^_, _≤_, _<_}
-use mathlib.Core.Path.{_≡_, refl, ap}
+use mathlib.Core.Path.{_≡_, refl}
 use mathlib.Core.Bool.{Bool, true, false, cond}
-use mathlib.Core.Logic.{⊎-elim}
-use native.Mathlib.Nat.{pow-succ', eq-or-lt-of-le, lt-of-not-le}
+use mathlib.Core.Logic.{_↔_}
+use native.Mathlib.Nat.{pow-succ', lt-of-not-le}
 use native.Mathlib.Omega.{arith}
 use borrow.Author.Tests.{ltb-true, ltb-false}
-use lib.Count.{leadingZeros, leading-length}
 use lib.Dec.{ltb}
 use lib.Pow.{pow-pos, pow-mono}
 use Rattle.compiler.specs.Translation.{bitsToWrite, rowBits}
 
--- k bits are enough to number m rows, and no fewer are
-pub record Width (m k : ℕ) : Type 0 where
-  pub enough : m ≤ 2 ^ k
-  pub least : (j : ℕ) → m ≤ 2 ^ j → k ≤ j
+-- k bits are needed to write x: x is below 2^k, and not below 2^(k-1) where k is above 0
+pub record Needed (x k : ℕ) : Type 0 where
+  pub below : x < 2 ^ k
+  pub not-below : 0 < k → 2 ^ (k - 1) ≤ x
 
--- which is one number
-pub width-one : (m k j : ℕ) → Width m k → Width m j → k ≡ j
-width-one m k j a b = omega (arith, a .least j (b .enough), b .least k (a .enough))
+twice-half : (k : ℕ) → 0 < k → 2 * 2 ^ (k - 1) ≡ 2 ^ k
+twice-half zero h = absurd (omega arith)
+twice-half (suc j) h =
+    let e : suc j - 1 ≡ j = omega arith in
+    rw (e, pow-succ' 2 j)
 
--- ---- the bits that `rowBits` says
--- one row more is numbered with the bits that `widened` says
-one-more : (m k : ℕ) (b : Bool) → ltb m (2 ^ k) ≡ b → Width m k → Width (suc m) (cond b k (suc k))
-one-more m k true e w = record { enough = ltb-true m (2 ^ k) e; least = λ j h. w .least j (omega arith) }
-one-more m k false e w =
-    record {
-      enough = rw (pow-succ' 2 k) (omega (arith, w .enough, pow-pos k));
-      least = λ j h.
-          ⊎-elim (λ (q : k ≡ j). absurd (short j h q)) (λ (q : k < j). q) (eq-or-lt-of-le (w .least j (omega arith)));
-    }
+-- fewer do not write it
+fewest : (x k j : ℕ) → Needed x k → x < 2 ^ j → k ≤ j
+fewest x k j s h = omega (arith, lt-of-not-le fewer)
   where
-    short : (j : ℕ) → suc m ≤ 2 ^ j → k ≡ j → ⊥
-    short j h q = omega (arith, ltb-false m (2 ^ k) e, ap (λ (i : ℕ). 2 ^ i) q)
+    fewer : suc j ≤ k → ⊥
+    fewer q = omega (arith, s .not-below (omega arith), pow-mono {i = j} {j = k - 1} (omega arith))
 
-bits-width : (x : ℕ) → Width (suc x) (bitsToWrite x)
+-- so that it is one number
+needed-one : (x k j : ℕ) → Needed x k → Needed x j → k ≡ j
+needed-one x k j a b = omega (arith, fewest x k j a (b .below), fewest x j k b (a .below))
+
+-- ---- it is what `bitsToWrite` says
+-- the next number needs the bits that `widened` says
+next-needed : (x k : ℕ) (b : Bool) → ltb (suc x) (2 ^ k) ≡ b → Needed x k → Needed (suc x) (cond b k (suc k))
+next-needed x k true e s = record { below = ltb-true (suc x) (2 ^ k) e; not-below = λ h. omega (arith, s .not-below h) }
+next-needed x k false e s =
+    record {
+      below = rw (pow-succ' 2 k) (omega (arith, s .below, pow-pos k));
+      not-below = λ h. omega (arith, twice-half (suc k) h, pow-succ' 2 k, ltb-false (suc x) (2 ^ k) e);
+    }
+
+bits-needed : (x : ℕ) → Needed x (bitsToWrite x)
 unfolding bitsToWrite
-bits-width zero = record { enough = omega arith; least = λ j h. omega arith }
-bits-width (suc x) = one-more (suc x) (bitsToWrite x) (ltb (suc x) (2 ^ bitsToWrite x)) refl (bits-width x)
+bits-needed zero = record { below = omega arith; not-below = λ h. absurd (omega arith) }
+bits-needed (suc x) = next-needed x (bitsToWrite x) (ltb (suc x) (2 ^ bitsToWrite x)) refl (bits-needed x)
 
-pub rows-width : (m : ℕ) → 1 ≤ m → Width m (rowBits m)
+pub bits-iff : (x k : ℕ) → (k ≡ bitsToWrite x) ↔ Needed x k
+bits-iff x k = ((λ e. rw e (bits-needed x)), (λ s. needed-one x k (bitsToWrite x) s (bits-needed x)))
+
+-- ---- of m rows
+rows-needed : (m : ℕ) → Needed (m - 1) (rowBits m)
 unfolding rowBits
-rows-width m h =
-    let e : suc (m - 1) ≡ m = omega arith in
-    rw e at (bits-width (m - 1))
+rows-needed m = bits-needed (m - 1)
 
 -- a row's number is below 2^k
 pub row-lt : (m v : ℕ) → v < m → v < 2 ^ rowBits m
-row-lt m v h = omega (arith, rows-width m (omega arith) .enough)
+row-lt m v h = omega (arith, rows-needed m .below)
 
 -- 128 rows need 7 bits
-pub few-bits : (m : ℕ) → 1 ≤ m → m ≤ 128 → rowBits m ≤ 7
-few-bits m a b = rows-width m a .least 7 b
+pub few-bits : (m : ℕ) → m ≤ 128 → rowBits m ≤ 7
+few-bits m h = fewest (m - 1) (rowBits m) 7 (rows-needed m) (omega arith)
 
--- ---- the bits that code counts: at any width w of a word, w less the leading zeros of m - 1
--- no fewer bits number m rows where half of 2^k are fewer than m
-least-of : (m k j : ℕ) → 2 ^ k < 2 * m → m ≤ 2 ^ j → k ≤ j
-least-of m k j h g =
-    let not-below : suc j ≤ k → ⊥ = λ (q : suc j ≤ k). omega (arith, pow-mono q, pow-succ' 2 j) in
-    omega (arith, lt-of-not-le not-below)
+-- ---- by ranges: k bits are needed for more than half of 2^k rows and at most 2^k
+pub ranged : (m k : ℕ) → 2 ^ k < 2 * m → m ≤ 2 ^ k → k ≡ rowBits m
+ranged m k a b = needed-one (m - 1) k (rowBits m) needed (rows-needed m)
+  where
+    needed : Needed (m - 1) k
+    needed = record { below = omega arith; not-below = λ h. omega (arith, twice-half k h) }
 
-pub counted-width : (w m : ℕ) → 1 ≤ m → m - 1 < 2 ^ w → w - leadingZeros w (m - 1) ≡ rowBits m
-counted-width w m h f =
-    let (k, e, a, b) = leading-length w (m - 1) f in
-    let is : w - leadingZeros w (m - 1) ≡ k = omega arith in
-    let counted : Width m k = record { enough = omega arith; least = λ j g. least-of m k j (omega arith) g } in
-    rw is (width-one m k (rowBits m) counted (rows-width m h))
+pub ranged-iff : (m k : ℕ) → 1 ≤ m → (k ≡ rowBits m) ↔ ((2 ^ k < 2 * m) × (m ≤ 2 ^ k))
+ranged-iff m k h = ((λ e. rw e (within (rowBits m) (rows-needed m))), (λ s. ranged m k (s .0) (s .1)))
+  where
+    within : (j : ℕ) → Needed (m - 1) j → (2 ^ j < 2 * m) × (m ≤ 2 ^ j)
+    within zero s = (omega arith, omega (arith, s .below))
+    within (suc j) s =
+        let l : 0 < suc j = omega arith in
+        (omega (arith, s .not-below l, twice-half (suc j) l), omega (arith, s .below))

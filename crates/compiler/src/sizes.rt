@@ -16,12 +16,23 @@ use fields::width;
 use programs::Instruction;
 use programs::Program;
 
-// k, the bits needed to write m - 1, by counted leading zeros.
+// k, the bits needed to write m - 1, by the cases of 02, order 6. No accepted matrix has another number of rows, so the last arm is never
+// taken.
 fn row_bits(m: usize) -> usize
-    requires { ⌜ 1 ≤ m ⌝ }
+    requires { ⌜ (1 ≤ m) × (m ≤ most-rows) ⌝ }
     ensures { λ r. ⌜ r ≡ rowBits m ⌝ }
 {
-    (64 - usize::leading_zeros(m - 1)) as usize
+    match m {
+        1 => 0,
+        2 => 1,
+        3..=4 => 2,
+        5..=8 => 3,
+        9..=16 => 4,
+        17..=32 => 5,
+        33..=64 => 6,
+        65..=128 => 7,
+        _ => 0,
+    }
 }
 
 // The live count after a column with w ones, before which it was h: the smaller of 2h - w and m.

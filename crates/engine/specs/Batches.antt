@@ -93,7 +93,7 @@ module _ (file : List ℕ) (M : Matrix) (e : matrixOf file ≡ gives M) (strings
     few : outside most-outputs (length left) ≡ false
     few =
         let a = read-accepted file M e in
-        let k = few-bits (M .rows) (a .some-rows) (a .few-rows) in
+        let k = few-bits (M .rows) (a .few-rows) in
         inside most-outputs (length left) (omega (arith, ending .long)) (omega (arith, ending .long, k))
 
     -- reading one number from each lane, whatever is made of what it gives

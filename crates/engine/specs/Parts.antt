@@ -177,7 +177,7 @@ module _ (T : Table) (q : Pick) (c : Chosen T q) (h : Picked (T .matrix .columns
       let out = s .ended .state .outputs in
       let few : outside most-outputs (length out) ≡ false =
       inside most-outputs (length out) (omega (arith, s .long))
-      (omega (arith, s .long, few-bits (M .rows) (a .some-rows) (a .few-rows))) in
+      (omega (arith, s .long, few-bits (M .rows) (a .few-rows))) in
       let code : ℕ → ℤ = λ j. signedCode (bitAt (c .word) j) (sampleOf out j) in
       let laid = lanes-give out room code few space in (
         upto lanes code,

@@ -1,6 +1,6 @@
 //! Fixed cases: 01's "Checked by hand", and the edges of every operation's sizes and checks.
 
-use super::cases::{build, check, compile, rewrite, samples, signed_samples, slice};
+use super::cases::{self, build, check, compile, rewrite, samples, signed_samples, slice};
 use super::cases::{draw, draw_signed, read, spent, start, walk, write};
 use super::line::Line;
 use crate::compiler;
@@ -32,6 +32,7 @@ pub fn fixed(put: &mut dyn FnMut(Line)) {
     slices(put);
     sample_words(put);
     draws(put);
+    value_bits(put);
 }
 
 /// The matrix file of rows written as texts.
@@ -343,4 +344,18 @@ fn draws(put: &mut dyn FnMut(Line)) {
     put(draw(&spare, &strings, 64));
     put(draw(&program[..program.len() - 1], &[], 0));
     put(start(&program, &[0xff, 0xf0f0], 14, 3, u32::MAX));
+}
+
+/// 02, order 6: the fewest and the most rows of each of its cases.
+const FEWEST_AND_MOST: [usize; 14] = [1, 2, 3, 4, 5, 8, 9, 16, 17, 32, 33, 64, 65, 128];
+
+/// Matrices of so many rows, each set in the last of 7 columns alone. So the string that spells s
+/// hits row m - 1 - s, if there is one, and the program marks every row.
+fn value_bits(put: &mut dyn FnMut(Line)) {
+    for rows in FEWEST_AND_MOST {
+        let texts = vec!["0000001"; rows];
+        let file = file_of(&texts);
+        put(compile(&file, program_of(&texts).len()));
+        put(cases::draws(&file, &in_turn(7), 0xaaaa_aaaa_5555_5555));
+    }
 }

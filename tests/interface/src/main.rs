@@ -16,6 +16,7 @@ mod programs;
 mod stack;
 mod table;
 mod trial;
+mod values;
 mod weights;
 mod wide;
 mod wrappers;
@@ -102,6 +103,7 @@ fn main() {
     foreign::compare();
     cumulative::compare();
     weights::compare();
+    values::compare();
     let stock = Stock::new(&mut Random::new(seed));
     let numbers: Vec<String> = (1..ANSWERS).map(|refusal| refusal.to_string()).collect();
     print_row("operation", "stack", "cases", "done", &numbers);

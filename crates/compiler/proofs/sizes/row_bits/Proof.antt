@@ -1,16 +1,16 @@
--- `compiler::row_bits` meets its contract: 64 less the leading zeros of m - 1 is its length in bits. Assumes nothing.
-use borrow.Author.Needs.{needs}
+-- `compiler::row_bits` meets its contract: each of its cases is a range in which so many bits are needed, and there is no other. Assumes
+-- nothing.
 use native.Mathlib.Omega.{arith}
-use lib.Count.{leading-le}
-use Rattle.compiler.specs.Width.{counted-width}
+use borrow.Author.Needs.{needs}
+use Rattle.compiler.specs.Width.{ranged}
 use Rattle.compiler.proofs.sizes.row_bits.Statement.{statement}
 use Rattle.compiler.proofs.sizes.row_bits.Tie as tie
 
-sub-result-2 : tie.Need-sub-result-2
-sub-result-2 c = leading-le 64 _
-
-returns : tie.Need-returns
-returns c = counted-width 64 (c .args .m) (c .pre) (omega (arith, c .fits .m))
-
 pub row-bits-spec : {M : Type 1} → statement M
-row-bits-spec = tie.close (tie.spec (search needs) sub-result-2 (search needs) returns)
+row-bits-spec =
+    tie.close
+    (tie.spec (λ c. ranged _ _ (search needs) (search needs)) (λ c. ranged _ _ (search needs) (search needs))
+    (λ c. ranged _ _ (search needs) (search needs)) (λ c. ranged _ _ (search needs) (search needs))
+    (λ c. ranged _ _ (search needs) (search needs)) (λ c. ranged _ _ (search needs) (search needs))
+    (λ c. ranged _ _ (search needs) (search needs)) (λ c. ranged _ _ (search needs) (search needs))
+    (λ c. absurd (omega arith)) (λ c. absurd (omega arith)))
