@@ -52,7 +52,7 @@ impl Code {
     }
 }
 
-/// k: the bits needed to write m - 1, 0 for m = 1.
+/// k: the bits needed to write m - 1, 0 for m = 1. 02, order 6, has them by cases, as the tests do.
 pub fn value_bits(rows: usize) -> usize {
     (0..)
         .find(|&k| rows - 1 < 1 << k)

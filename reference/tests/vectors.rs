@@ -167,26 +167,49 @@ fn weights_are_built_for_both_uses() {
     built(&"f".repeat(8 * 128), "80", "1", &answer);
 }
 
-/// 02, order 6: the fewest and the most rows of each case are compiled, and the samples drawn of
-/// them are those that can be worked out by hand: 64 strings that spell 0 to 63 hit the rows from
-/// m - 1 down.
+/// 02, order 6: the fewest and the most rows of each case, and the value bits that they need.
+const CASES: [(u8, u8, usize); 8] = [
+    (1, 1, 0),
+    (2, 2, 1),
+    (3, 4, 2),
+    (5, 8, 3),
+    (9, 16, 4),
+    (17, 32, 5),
+    (33, 64, 6),
+    (65, 128, 7),
+];
+
+/// The bytes of the program, by 01's list, of so many rows that are set in the last of 7 columns.
+fn program_length(rows: usize, bits: usize) -> usize {
+    let (mut bytes, mut live) = (14 + 6 * (2 + bits) + 8 * (1 + bits), 1);
+    for ones in [0, 0, 0, 0, 0, 0, rows] {
+        let after = rows.min(2 * live - ones);
+        bytes += 2 * 8 + 10 * (2 * live + after);
+        live = after;
+    }
+    let marks: usize = (0..rows).map(|v| 1 + v.count_ones() as usize).sum();
+    bytes + 10 * marks
+}
+
+/// They are compiled to as many bytes as the value bits say, and the samples drawn of them can be
+/// worked out by hand: 64 strings that spell 0 to 63 hit the rows from m - 1 down.
 #[test]
 fn rows_of_every_case_are_compiled_and_drawn() {
     let lines = lines(1);
-    for rows in [1, 2, 3, 4, 5, 8, 9, 16, 17, 32, 33, 64, 65, 128u8] {
-        let file = format!(
-            "{:02x}002000{rows:02x}000700{}",
-            8 + rows,
-            "02".repeat(rows.into())
-        );
-        let compiled = format!("5 {file} ");
-        let is_compiled = |line: &String| line.starts_with(&compiled) && line.contains(" = 0 ");
-        assert!(lines.iter().any(is_compiled), "{compiled}.. = 0 ..");
-        let sample = |s: u8| rows.checked_sub(1 + s).unwrap_or(0xff);
-        let samples: String = (0..64).map(|s| format!("{:02x}", sample(s))).collect();
-        let (drawn, answered) = (format!("11 {file} "), format!(" = 0 {samples} "));
-        let is_drawn = |line: &String| line.starts_with(&drawn) && line.contains(&answered);
-        assert!(lines.iter().any(is_drawn), "{drawn}..{answered}..");
+    let found = |given: String, answer: String| {
+        let is_it = |line: &String| line.starts_with(&given) && line.contains(&answer);
+        assert!(lines.iter().any(is_it), "{given}..{answer}..");
+    };
+    for (fewest, most, bits) in CASES {
+        for rows in [fewest, most] {
+            let bytes = "02".repeat(rows.into());
+            let file = format!("{:02x}002000{rows:02x}000700{bytes}", 8 + rows);
+            let length = program_length(rows.into(), bits);
+            found(format!("5 {file} "), format!(" = 0 {length:x} "));
+            let sample = |s: u8| rows.checked_sub(1 + s).unwrap_or(0xff);
+            let samples: String = (0..64).map(|s| format!("{:02x}", sample(s))).collect();
+            found(format!("11 {file} "), format!(" = 0 {samples} "));
+        }
     }
 }
 

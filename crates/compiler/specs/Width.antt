@@ -1,5 +1,5 @@
--- k, the bits needed to write m - 1: what these words mean, and the rows for which it is which number (01, "Translation"; 02, order 6).
--- Assumes nothing.
+-- k, the bits needed to write m - 1: what these words mean, and the ranges of m in which k is one number (01, "Translation"; 02, order
+-- 6). Assumes nothing.
 use Prim.Native.Nat.{ℕ, zero, suc, _-_, _*_, _^_, _≤_, _<_}
 use mathlib.Core.Path.{_≡_, refl}
 use mathlib.Core.Bool.{Bool, true, false, cond}
@@ -23,7 +23,7 @@ twice-half (suc j) h =
     rw (e, pow-succ' 2 j)
 
 -- fewer do not write it
-fewest : (x k j : ℕ) → Needed x k → x < 2 ^ j → k ≤ j
+pub fewest : (x k j : ℕ) → Needed x k → x < 2 ^ j → k ≤ j
 fewest x k j s h = omega (arith, lt-of-not-le fewer)
   where
     fewer : suc j ≤ k → ⊥
@@ -60,7 +60,7 @@ rows-needed m = bits-needed (m - 1)
 pub row-lt : (m v : ℕ) → v < m → v < 2 ^ rowBits m
 row-lt m v h = omega (arith, rows-needed m .below)
 
--- 128 rows need 7 bits
+-- at most 128 rows need at most 7 bits
 pub few-bits : (m : ℕ) → m ≤ 128 → rowBits m ≤ 7
 few-bits m h = fewest (m - 1) (rowBits m) 7 (rows-needed m) (omega arith)
 

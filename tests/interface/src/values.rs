@@ -1,5 +1,5 @@
-//! 02, order 6, "Value bits by cases": matrices of every number of rows are compiled, and their programs have as many registers and outputs
-//! as the value bits that stand there say.
+//! 02, order 6, "Value bits by cases": matrices of every number of rows are compiled, their programs have as many registers and outputs as
+//! the value bits that stand there say, and the largest row is drawn. Other numbers of rows are refused.
 
 use crate::faults::field_or_0;
 use crate::lanes::draw_signed_on;
@@ -26,7 +26,7 @@ const CASES: [(usize, usize, usize); 8] = [
 /// Ends the tests where a program has other value bits than 02 says, or rows outside the cases are compiled.
 pub fn compare() {
     let random = &mut Random::new(0);
-    let mut trial = Trial::new("compile", 0);
+    let mut trial = Trial::new("compile, draw ..", 0);
     for (fewest, most, bits) in CASES {
         for rows in fewest..=most {
             for columns in [1, 7, 8, 63, 128] {
@@ -80,7 +80,7 @@ fn rows_are_drawn(trial: &mut Trial, random: &mut Random, rows: usize, bits: usi
     let program = compiled(trial, random, &ones(rows), bits);
     let strings: Vec<u8> = (0..64).map(|s| s << 1).collect();
     let (number, samples) = draw_signed_on(trial, random, &program, &strings, 0, LANES);
-    must(&format!("draw of {rows} rows"), DONE, number);
+    must(&format!("draw_signed of {rows} rows"), DONE, number);
     let row = |s| {
         rows.checked_sub(1 + s)
             .map_or(SIGNED_MISS, |row| row as i16)
@@ -88,7 +88,7 @@ fn rows_are_drawn(trial: &mut Trial, random: &mut Random, rows: usize, bits: usi
     let wanted: Vec<i16> = (0..LANES).map(row).collect();
     if samples != wanted {
         fail(&format!(
-            "draw of {rows} rows leaves {samples:?}, and not {wanted:?}"
+            "draw_signed of {rows} rows leaves {samples:?}, and not {wanted:?}"
         ));
     }
 }

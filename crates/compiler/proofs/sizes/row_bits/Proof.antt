@@ -1,5 +1,5 @@
--- `compiler::row_bits` meets its contract: each of its cases is a range in which so many bits are needed, and there is no other. Assumes
--- nothing.
+-- `compiler::row_bits` meets its contract: each of its eight cases is a range in which so many bits are needed; all other rows, the last
+-- two goals, are ruled out. Assumes nothing.
 use native.Mathlib.Omega.{arith}
 use borrow.Author.Needs.{needs}
 use Rattle.compiler.specs.Width.{ranged}
