@@ -1,4 +1,4 @@
-//! 01, "Translation": from a matrix to its program.
+//! 01, "Translation", and 02, order 6: from a matrix to its program.
 
 use crate::matrix::{self, Matrix};
 use crate::program::{Header, Instruction, Operation, Program};
@@ -52,7 +52,19 @@ impl Code {
     }
 }
 
-/// k: the bits needed to write m - 1, 0 for m = 1. 02, order 6, has them by cases, as the tests do.
+/// 02, order 6: from so many rows to so many need so many value bits.
+pub const VALUE_BIT_CASES: [(usize, usize, usize); 8] = [
+    (1, 1, 0),
+    (2, 2, 1),
+    (3, 4, 2),
+    (5, 8, 3),
+    (9, 16, 4),
+    (17, 32, 5),
+    (33, 64, 6),
+    (65, 128, 7),
+];
+
+/// k: the bits needed to write m - 1, 0 for m = 1. Tests hold it to the cases.
 pub fn value_bits(rows: usize) -> usize {
     (0..)
         .find(|&k| rows - 1 < 1 << k)

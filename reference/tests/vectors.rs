@@ -1,5 +1,6 @@
 //! The vectors: the same each time, small enough to store, and answered from their own text.
 
+use reference::compiler::VALUE_BIT_CASES;
 use reference::vectors::answer::answer;
 use reference::vectors::line::Hash;
 use reference::vectors::{each_given, LONGEST_LINE};
@@ -167,19 +168,7 @@ fn weights_are_built_for_both_uses() {
     built(&"f".repeat(8 * 128), "80", "1", &answer);
 }
 
-/// 02, order 6: the fewest and the most rows of each case, and the value bits that they need.
-const CASES: [(u8, u8, usize); 8] = [
-    (1, 1, 0),
-    (2, 2, 1),
-    (3, 4, 2),
-    (5, 8, 3),
-    (9, 16, 4),
-    (17, 32, 5),
-    (33, 64, 6),
-    (65, 128, 7),
-];
-
-/// The bytes of the program, by 01's list, of so many rows that are set in the last of 7 columns.
+/// The bytes of the program of so many rows that are set in the last of 7 columns, by 01's list.
 fn program_length(rows: usize, bits: usize) -> usize {
     let (mut bytes, mut live) = (14 + 6 * (2 + bits) + 8 * (1 + bits), 1);
     for ones in [0, 0, 0, 0, 0, 0, rows] {
@@ -191,8 +180,9 @@ fn program_length(rows: usize, bits: usize) -> usize {
     bytes + 10 * marks
 }
 
-/// They are compiled to as many bytes as the value bits say, and the samples drawn of them can be
-/// worked out by hand: 64 strings that spell 0 to 63 hit the rows from m - 1 down.
+/// 02, order 6: the fewest and the most rows of each case are compiled to as many bytes as its value
+/// bits say, and the samples drawn of them can be worked out by hand: 64 strings that spell 0 to 63
+/// hit the rows from m - 1 down.
 #[test]
 fn rows_of_every_case_are_compiled_and_drawn() {
     let lines = lines(1);
@@ -200,13 +190,13 @@ fn rows_of_every_case_are_compiled_and_drawn() {
         let is_it = |line: &String| line.starts_with(&given) && line.contains(&answer);
         assert!(lines.iter().any(is_it), "{given}..{answer}..");
     };
-    for (fewest, most, bits) in CASES {
+    for (fewest, most, bits) in VALUE_BIT_CASES {
         for rows in [fewest, most] {
-            let bytes = "02".repeat(rows.into());
+            let bytes = "02".repeat(rows);
             let file = format!("{:02x}002000{rows:02x}000700{bytes}", 8 + rows);
-            let length = program_length(rows.into(), bits);
+            let length = program_length(rows, bits);
             found(format!("5 {file} "), format!(" = 0 {length:x} "));
-            let sample = |s: u8| rows.checked_sub(1 + s).unwrap_or(0xff);
+            let sample = |s: usize| rows.checked_sub(1 + s).unwrap_or(0xff);
             let samples: String = (0..64).map(|s| format!("{:02x}", sample(s))).collect();
             found(format!("11 {file} "), format!(" = 0 {samples} "));
         }

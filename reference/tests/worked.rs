@@ -2,7 +2,7 @@
 //! columns that these walks use; order 2, results of four samples; order 4, cumulative tables;
 //! order 5, weights for signed use; order 6, the value bits of every number of rows.
 
-use reference::compiler::{compile, translate, value_bits};
+use reference::compiler::{compile, translate, value_bits, VALUE_BIT_CASES};
 use reference::cumulative::{export, import, lookup, sums, Exported};
 use reference::draws::{draw, draw_signed};
 use reference::listing::lister;
@@ -14,7 +14,6 @@ use reference::refusal::Answer;
 use reference::walk::{spent, walk, Walked};
 use reference::weights::build;
 use reference::wide::{combine, combined_misses, result_counts, signed_counts, Counts};
-use std::ops::RangeInclusive;
 
 fn file_of(rows: &[&str]) -> Vec<u8> {
     Matrix::from_texts(rows).encode()
@@ -268,26 +267,14 @@ fn bytes_of_the_listed_program() {
     assert_eq!(numbers, (10, 1, 2, 12));
 }
 
-/// 02, order 6: the rows of each case, and the value bits that they need. The four samples of
-/// section 3.1 of 002, with two bits each, are in the third.
-const CASES: [(RangeInclusive<usize>, usize); 8] = [
-    (1..=1, 0),
-    (2..=2, 1),
-    (3..=4, 2),
-    (5..=8, 3),
-    (9..=16, 4),
-    (17..=32, 5),
-    (33..=64, 6),
-    (65..=128, 7),
-];
-
-/// The cases go through 1 to 128 rows in turn. In each, m - 1 is below 2^k and, where k is above 0,
-/// not below 2^(k-1); and a program has k of its registers and outputs for the value.
+/// 02, order 6: the cases go through 1 to 128 rows in turn. In each, m - 1 is below 2^k and, where k
+/// is above 0, not below 2^(k-1); and a program has k of its registers and outputs for the value.
+/// The four samples of section 3.1 of 002, of two bits each, are in the third.
 #[test]
 fn value_bits_by_cases() {
     let mut rows = 1..=128;
-    for (case, bits) in CASES {
-        for m in case {
+    for (fewest, most, bits) in VALUE_BIT_CASES {
+        for m in fewest..=most {
             assert_eq!(rows.next(), Some(m));
             assert_eq!(value_bits(m), bits, "{m} rows");
             assert_eq!((m - 1) >> bits, 0);

@@ -3,7 +3,7 @@
 use super::cases::{self, build, check, compile, rewrite, samples, signed_samples, slice};
 use super::cases::{draw, draw_signed, read, spent, start, walk, write};
 use super::line::Line;
-use crate::compiler;
+use crate::compiler::{self, VALUE_BIT_CASES};
 use crate::matrix::{file_length, Matrix};
 
 /// Sizes around the limits of rows and columns, and sizes that a field of 16 bits, or a number of
@@ -346,13 +346,16 @@ fn draws(put: &mut dyn FnMut(Line)) {
     put(start(&program, &[0xff, 0xf0f0], 14, 3, u32::MAX));
 }
 
-/// 02, order 6: the fewest and the most rows of each of its cases.
-const FEWEST_AND_MOST: [usize; 14] = [1, 2, 3, 4, 5, 8, 9, 16, 17, 32, 33, 64, 65, 128];
-
-/// Matrices of so many rows, each set in the last of 7 columns alone. So the string that spells s
-/// hits row m - 1 - s, if there is one, and the program marks every row.
+/// 02, order 6: the fewest and the most rows of each case, once each. Every row is set in the last
+/// of 7 columns alone: so the string that spells s hits row m - 1 - s, if there is one, and the
+/// program marks all rows.
 fn value_bits(put: &mut dyn FnMut(Line)) {
-    for rows in FEWEST_AND_MOST {
+    let mut ends: Vec<usize> = VALUE_BIT_CASES
+        .iter()
+        .flat_map(|case| [case.0, case.1])
+        .collect();
+    ends.dedup();
+    for rows in ends {
         let texts = vec!["0000001"; rows];
         let file = file_of(&texts);
         put(compile(&file, program_of(&texts).len()));

@@ -5,29 +5,17 @@ use crate::faults::field_or_0;
 use crate::lanes::draw_signed_on;
 use crate::matrices::compile_on;
 use crate::trial::{fail, must, Trial};
-use reference::compiler::translate;
+use reference::compiler::{translate, VALUE_BIT_CASES};
 use reference::lanes::{LANES, SIGNED_MISS};
 use reference::lent::DONE;
 use reference::matrix::Matrix;
 use reference::random::{self, Random};
 
-/// From so many rows to so many, as 02 has it, and the value bits that they need.
-const CASES: [(usize, usize, usize); 8] = [
-    (1, 1, 0),
-    (2, 2, 1),
-    (3, 4, 2),
-    (5, 8, 3),
-    (9, 16, 4),
-    (17, 32, 5),
-    (33, 64, 6),
-    (65, 128, 7),
-];
-
 /// Ends the tests where a program has other value bits than 02 says, or rows outside the cases are compiled.
 pub fn compare() {
     let random = &mut Random::new(0);
     let mut trial = Trial::new("compile, draw ..", 0);
-    for (fewest, most, bits) in CASES {
+    for (fewest, most, bits) in VALUE_BIT_CASES {
         for rows in fewest..=most {
             for columns in [1, 7, 8, 63, 128] {
                 let matrix = random::matrix_by_columns(random, rows, columns, true);
