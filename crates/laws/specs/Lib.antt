@@ -1,6 +1,7 @@
 -- What no single file format or machine owns, in the order in which one rests on another.
 pub mod Tests
 pub mod Sums
+pub mod Smallest
 pub mod Digits
 pub mod Words
 pub mod Lists

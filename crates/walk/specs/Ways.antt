@@ -23,19 +23,22 @@ unfolding packedBit
 bit-behind k bytes at i =
     ap (λ (x : ℕ). digit 8 x (i % 8)) (getD-drop k bytes (at + i / 8) 0 ∙ ap (λ (q : ℕ). getD bytes q 0) (omega arith))
 
+-- the rows of a file with a matrix are that matrix's
+pub rows-are : (file : List ℕ) (M : Matrix) → matrixOf file ≡ gives M → (v c : ℕ) → v < M .rows → c < M .columns →
+    fileRows file (M .columns) v c ≡ bit M v c
+rows-are file M e v c h l =
+    sym (ap (λ (X : Matrix). bit X v c) (matrix-read file M e .is) ∙
+    (unpacked-bit (drop 8 file) (sizes M) v c h l ∙ bit-behind 8 file (v * width (M .columns)) c))
+
 -- what is drawn from a file with a matrix is the walk of that matrix
 pub drawAt-is : (file : List ℕ) (M : Matrix) → matrixOf file ≡ gives M → (strings : List ℕ) (at : ℕ) →
     drawAt file strings at ≡ drawn M (upto (M .columns) (bitOf strings at))
 unfolding drawAt drawn
 drawAt-is file M e strings at =
-    let r = matrix-read file M e in
-    let h = header-says file (sizes M) (r .header) in
+    let h = header-says file (sizes M) (matrix-read file M e .header) in
     rw (h .rows-is, h .columns-is)
     (walk-eq (fileRows file (M .columns)) (bit M) (M .rows) 0 0 (upto (M .columns) (bitOf strings at))
-    (λ v i l a b.
-    sym (ap (λ (X : Matrix). bit X v i) (r .is) ∙
-    (unpacked-bit (drop 8 file) (sizes M) v i l (omega (arith, length-upto (M .columns) (bitOf strings at))) ∙
-    bit-behind 8 file (v * width (M .columns)) i))))
+    (λ v i l a b. rows-are file M e v i l (omega (arith, length-upto (M .columns) (bitOf strings at)))))
 
 module _ (file string : List ℕ) where
   pub walk-refused : (n : ℕ) → refused n ≡ mapped sizes (matrixOf file) → refused n ≡ walkOf file string
