@@ -55,7 +55,7 @@ enum corkhollow_refusal {
                                    14, an instruction cut short */
     CORKHOLLOW_KIND = 2,        /* the first record is not of the kind expected: another file, also one cut short, from 4 bytes on */
     CORKHOLLOW_SIZE = 3,        /* rows, columns, weights, registers, inputs, outputs, instructions, output words, numbers of a cumulative
-                                   table, or a number that is looked up, outside the limits */
+                                   table, a number that is looked up, or a row that is asked for, outside the limits */
     CORKHOLLOW_LENGTH = 4,      /* a length field that is not what the header requires, or bytes left over */
     CORKHOLLOW_BIT = 5,         /* a spare bit set, an entry neither 0 nor 1, or an entry of a list that is no signed sample */
     CORKHOLLOW_SUM = 6,         /* the rows of the matrix add up to more than 2^columns */
@@ -155,6 +155,21 @@ uint32_t corkhollow_walk(const uint8_t *file, size_t file_length,
 uint32_t corkhollow_spent(const uint8_t *file, size_t file_length,
                           const uint8_t *strings, size_t strings_length,
                           size_t *total);
+
+/*
+ * Finds a string for a wanted sample, for self-tests: of the strings of as many bits as the matrix file has columns, the smallest, as a
+ * number with bit 0 highest, on which the walk hits this row. Tells in `found` whether there is one. Where there is, it lies packed at the
+ * front of `string`, spare low bits 0. There is none exactly where the row is all zero, and then nothing is written to `string`.
+ *
+ * The walk hits in the first column in which the row is set, and the bits after that are 0. Any lane of the compiled program that carries
+ * the string gives the row too, whatever the other lanes carry. The string is the same each time: what is drawn from it is no secret.
+ * Refusals, in the order tried: 1 under 4 bytes, 2, 1, 3, 4, 5, 6 for the file; 3 for a row not below the file's rows; 13 for `string`
+ * under CORKHOLLOW_WIDTH(columns), also where the row is all zero.
+ */
+uint32_t corkhollow_string_for(const uint8_t *file, size_t file_length,
+                               size_t row,
+                               uint8_t *string, size_t string_length,
+                               bool *found);
 
 /* ---- program files ---- */
 

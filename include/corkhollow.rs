@@ -88,6 +88,14 @@ pub mod raw {
             strings_length: usize,
             total: *mut usize,
         ) -> u32;
+        pub fn corkhollow_string_for(
+            file: *const u8,
+            file_length: usize,
+            row: usize,
+            string: *mut u8,
+            string_length: usize,
+            found: *mut bool,
+        ) -> u32;
         pub fn corkhollow_compile(
             file: *const u8,
             file_length: usize,
@@ -218,7 +226,7 @@ impl fmt::Display for Refusal {
         let why = match self.0 {
             1 => "shorter than its records say",
             2 => "not the kind of file expected",
-            3 => "a size, or a number that is looked up, outside the limits",
+            3 => "a size, a number that is looked up, or a row that is asked for, outside the limits",
             4 => "a length field that does not fit, or bytes left over",
             5 => "a spare bit set, an entry neither 0 nor 1, or one of a list that is no signed sample",
             6 => "the rows add up to more than 2^columns",
@@ -368,6 +376,24 @@ pub fn spent(file: &[u8], strings: &[u8]) -> Result<usize, Refusal> {
         )
     };
     settle(returned, total)
+}
+
+/// Finds the smallest packed string on which the walk hits a row, for self-tests: whether there is one, and then it is at the front of
+/// `string`. There is none exactly where the row is all zero, and then `string` is as it was.
+pub fn string_for(file: &[u8], row: usize, string: &mut [u8]) -> Result<bool, Refusal> {
+    let mut found = false;
+    // SAFETY: as in `read`.
+    let returned = unsafe {
+        raw::corkhollow_string_for(
+            file.as_ptr(),
+            file.len(),
+            row,
+            string.as_mut_ptr(),
+            string.len(),
+            &mut found,
+        )
+    };
+    settle(returned, found)
 }
 
 /// Compiles a matrix file, and tells the program's length.

@@ -9,8 +9,8 @@ use crate::lanes::MISS;
 use crate::machine::Run;
 use crate::refusal::Answer;
 use crate::{
-    compiler, cumulative, draws, lanes, machine, matrix, program, walk as walks, weights as shares,
-    wide,
+    compiler, cumulative, draws, lanes, machine, matrix, program, walk as walks, wanted,
+    weights as shares, wide,
 };
 
 /// Returned where an operation was carried out.
@@ -84,6 +84,15 @@ pub fn walk(file: &[u8], string: &[u8], row: &mut usize, used: &mut usize) -> u3
 /// Adding up what the walks on 64 strings use.
 pub fn spent(file: &[u8], strings: &[u8], total: &mut usize) -> u32 {
     settle(walks::spent(file, strings), |spent| *total = spent)
+}
+
+/// Finding the smallest string on which the walk hits a row; nothing is laid where there is none.
+pub fn string_for(file: &[u8], row: usize, string: &mut [u8], found: &mut bool) -> u32 {
+    let answer = wanted::string_for(file, row, string.len());
+    settle(answer, |laid| {
+        *found = laid.is_some();
+        lay(&laid.unwrap_or_default(), string);
+    })
 }
 
 /// Compiling a matrix file.

@@ -6,9 +6,11 @@ use reference::draws::draw_signed;
 use reference::matrix::{check, decode, Matrix};
 use reference::natural::Natural;
 use reference::random::{self, Random};
+use reference::record::unpack;
 use reference::tables::{document_001, document_002, document_004, document_004_cut};
 use reference::vectors::line::Hash;
-use reference::walk::{place_after, spent, used_by_all, walk_bits, Place};
+use reference::walk::{place_after, spent, used_by_all, walk, walk_bits, Place};
+use reference::wanted::string_for;
 use reference::wide::{combine, combined_misses, result_counts};
 
 fn bits_of(text: &str) -> Vec<u8> {
@@ -170,6 +172,45 @@ fn batches_of_002_combined() {
     assert!((squares / 6_400).abs_diff(215 * 215) < 6 * 817);
 }
 
+/// The number of the string for a row of a table of 128 columns, where there is one.
+fn string_number(file: &[u8], row: usize) -> Option<Natural> {
+    let string = string_for(file, row, 16).unwrap();
+    string.map(|string| Natural::from_bits(&unpack(&string, 128)))
+}
+
+/// 02, order 7: the strings worked out by other means; every row that is not 0 is hit in the first
+/// column in which it is set, and rows 82 to 86 have no string.
+#[test]
+fn strings_for_the_rows_of_002() {
+    let (matrix, file) = (document_002(), document_002().encode());
+    for (row, digits) in STRINGS_002 {
+        let number = Natural::from_hexadecimal(digits);
+        assert_eq!(string_number(&file, row), Some(number), "row {row}");
+    }
+    for row in 0..=81 {
+        let string = string_for(&file, row, 16).unwrap().unwrap();
+        let walked = walk(&file, &string).unwrap();
+        let zeros = 128 - matrix.value(row).width();
+        assert_eq!((walked.row, walked.used), (Some(row), zeros + 1));
+    }
+    for row in 82..87 {
+        assert_eq!(string_number(&file, row), None);
+    }
+    assert_eq!(string_for(&file, 87, 16), Err(3));
+}
+
+/// Section 5.2: 0 gives 0 and 10 gives 1, as in the look-up tables above. Row 2 is row 0 moved right
+/// by four places, so that its first 1 is in column 4; the columns before have one each, of rows 0,
+/// 1, 0 and 1, and leave 11110 for it.
+#[test]
+fn strings_for_the_rows_of_001() {
+    let file = document_001().encode();
+    for (row, bits) in [(0, "0"), (1, "10"), (2, "11110")] {
+        let number = Natural::from_bits(&bits_of(&format!("{bits:0<128}")));
+        assert_eq!(string_number(&file, row), Some(number));
+    }
+}
+
 #[test]
 fn program_of_002() {
     let program = translate(&document_002());
@@ -276,3 +317,22 @@ const ROWS_002: [(usize, &str); 13] = [
 
 /// The hash of the whole file of that table, by the same means.
 const HASH_002: u64 = 0x2f30_f98f_c592_58d6;
+
+/// The strings for some rows of that table, by the same means. Of the first eight this can be seen:
+/// row 1 alone is at least 1/8, and is hit by 000; of four bits 0010 to 1000 are then left for the
+/// rows from 1/16 to 1/8, which are 7 to 2, the last first, and 0.
+const STRINGS_002: [(usize, &str); 13] = [
+    (1, "00000000000000000000000000000000"),
+    (7, "20000000000000000000000000000000"),
+    (6, "30000000000000000000000000000000"),
+    (5, "40000000000000000000000000000000"),
+    (4, "50000000000000000000000000000000"),
+    (3, "60000000000000000000000000000000"),
+    (2, "70000000000000000000000000000000"),
+    (0, "80000000000000000000000000000000"),
+    (39, "ffffffd4000000000000000000000000"),
+    (40, "fffffff5800000000000000000000000"),
+    (56, "ffffffffffffff8c0000000000000000"),
+    (80, "fffffffffffffffffffffffffffffd70"),
+    (81, "ffffffffffffffffffffffffffffffb0"),
+];

@@ -14,6 +14,7 @@ use reference::random::{self, Random};
 use reference::record::put;
 use reference::refusal::Answer;
 use reference::walk::{spent, walk, Walked};
+use reference::wanted::string_for;
 use reference::weights::build;
 use reference::wide::combine;
 use std::collections::BTreeMap;
@@ -854,5 +855,96 @@ fn export_tries_the_matrix_then_columns_then_room() {
     }
     for table_lent in [3, 4, usize::MAX] {
         assert_eq!(export(&file, table_lent).unwrap().table, [0, 3, 4]);
+    }
+}
+
+/// Of each number of rows, all set in the last of 7 columns: the last row has the string of all
+/// zeros, and the number that follows is no row's, nor any that 8, 16, 32 or 63 bits take for one.
+#[test]
+fn string_for_takes_numbers_below_the_rows() {
+    for rows in 1..=128 {
+        let file = file_of(&vec!["0000001"; rows]);
+        let first = 2 * (rows as u8 - 1);
+        assert_eq!(string_for(&file, 0, 1), Ok(Some(vec![first])));
+        assert_eq!(string_for(&file, rows - 1, 1), Ok(Some(vec![0])));
+        for row in [rows, rows + 1, 128, 129, 255, 256, 65_535, 65_536] {
+            assert_eq!(string_for(&file, row, 1), Err(3));
+        }
+        for row in [1 << 32, (1 << 32) + rows - 1, 1 << 63, usize::MAX] {
+            assert_eq!(string_for(&file, row, 1), Err(3));
+        }
+        assert_eq!(string_for(&file, 127, 1).is_ok(), rows == 128);
+    }
+}
+
+/// At every n: a row of which the string has only ones, one with only zeros, and one without any.
+#[test]
+fn string_for_needs_room_for_the_string() {
+    for columns in 1..=128usize {
+        let one = format!("{}1", "0".repeat(columns - 1));
+        let (ones, zeros) = ("1".repeat(columns), "0".repeat(columns));
+        let file = file_of(&[&one, &ones, &zeros]);
+        let length = columns.div_ceil(8);
+        let mut filled = vec![0xff; length];
+        filled[length - 1] <<= 8 * length - columns;
+        let strings = [Some(filled), Some(vec![0x00; length]), None];
+        for (row, string) in strings.iter().enumerate() {
+            for string_lent in [length, length + 1, 65_536 + length, usize::MAX] {
+                let found = string_for(&file, row, string_lent);
+                assert_eq!(found.as_ref(), Ok(string), "{columns} columns");
+            }
+            for string_lent in [0, length - 1] {
+                assert_eq!(string_for(&file, row, string_lent), Err(13));
+            }
+        }
+    }
+}
+
+/// The matrix's own checks, then 3 for a row number not below m, then 13, also where the row is all
+/// zero.
+#[test]
+fn string_for_tries_the_matrix_then_the_row_then_room() {
+    // Each refusal of the matrix with the next, and a row and room that are sound, or not.
+    for (row, string_lent) in [(0, 1), (0, 0), (2, 1), (2, 0), (usize::MAX, 0)] {
+        let tried = |file: &[u8]| string_for(file, row, string_lent);
+        assert_eq!(tried(&raw(9, 16, 1, 1, &[])[..3]), Err(1));
+        assert_eq!(tried(&raw(9, 16, 1, 1, &[])), Err(2));
+        assert_eq!(tried(&raw(9, 16, 0, 1, &[0])), Err(2));
+        assert_eq!(tried(&raw(9, 32, 0, 1, &[])), Err(1));
+        assert_eq!(tried(&raw(8, 32, 1, 129, &[0])), Err(3));
+        assert_eq!(tried(&raw(8, 32, 1, 1, &[1])), Err(4));
+        assert_eq!(tried(&raw(9, 32, 1, 1, &[1, 1])), Err(4));
+        assert_eq!(tried(&raw(10, 32, 2, 2, &[0xc1, 0xc0])), Err(5));
+        assert_eq!(tried(&raw(10, 32, 2, 2, &[0xc0, 0xc0])), Err(6));
+    }
+    // Row 0 is hit by 00, row 1 is all zero.
+    let file = raw(10, 32, 2, 2, &[0xc0, 0x00]);
+    for string_lent in [0, 1, 2] {
+        assert_eq!(string_for(&file, 2, string_lent), Err(3));
+    }
+    for (row, string) in [(0, Some(vec![0x00])), (1, None)] {
+        assert_eq!(string_for(&file, row, 0), Err(13));
+        assert_eq!(string_for(&file, row, 1), Ok(string));
+    }
+}
+
+/// A row that is set in the last column alone: by itself, where all zeros hit it, and beside one that
+/// is set in the first column alone, where a 1 and then zeros do.
+#[test]
+fn string_for_goes_to_the_last_column() {
+    for columns in [2, 8, 31, 32, 33, 63, 64, 65, 66, 97, 127, 128usize] {
+        let (first, last) = (
+            format!("1{}", "0".repeat(columns - 1)),
+            format!("{}1", "0".repeat(columns - 1)),
+        );
+        let mut string = vec![0x00; columns.div_ceil(8)];
+        assert_eq!(
+            string_for(&file_of(&[&last]), 0, 16),
+            Ok(Some(string.clone()))
+        );
+        string[0] = 0x80;
+        let file = file_of(&[&first, &last]);
+        assert_eq!(string_for(&file, 1, 16), Ok(Some(string)));
+        assert_eq!(string_for(&file, 0, 16).unwrap().unwrap()[0], 0x00);
     }
 }

@@ -12,6 +12,7 @@ use reference::program;
 use reference::record::put;
 use reference::tables::document_004;
 use reference::walk::{spent, walk};
+use reference::wanted::string_for;
 
 /// Matrices whose files have 9, 10, 11 and 14 bytes, and more.
 fn matrices() -> Vec<Matrix> {
@@ -43,6 +44,7 @@ fn matrix_is_refused(file: &[u8], number: u32) {
     assert_eq!(spent(file, &[]), Err(number));
     assert_eq!(compile(file, 0), Err(number));
     assert_eq!(export(file, 0), Err(number));
+    assert_eq!(string_for(file, usize::MAX, 0), Err(number));
     assert_eq!(lister(file), format!("refused {number}\n"));
 }
 

@@ -13,7 +13,9 @@ use reference::natural::Natural;
 use reference::program::{self, Operation};
 use reference::random::{self, Random};
 use reference::record::{pack, unpack};
+use reference::tables::{document_001, document_002, document_004};
 use reference::walk::{place_after, spent, used_by_all, walk, walk_bits, Place};
+use reference::wanted::string_for;
 use reference::weights::build;
 use reference::wide::{combine, combined_misses, result_counts, signed_counts, Counts};
 use std::collections::BTreeMap;
@@ -43,6 +45,11 @@ fn all_strings(columns: usize) -> impl Iterator<Item = Vec<u8>> {
 /// others.
 fn given(random: &mut Random, program: &[u8], bits: &[u8]) -> Option<usize> {
     let lane = random.below(64);
+    given_in(random, lane, program, bits)
+}
+
+/// The same in this lane.
+fn given_in(random: &mut Random, lane: usize, program: &[u8], bits: &[u8]) -> Option<usize> {
     let words: Vec<u64> = bits
         .iter()
         .map(|&bit| random.word() & !(1 << lane) | u64::from(bit) << lane)
@@ -540,6 +547,161 @@ fn tables_with_faults() {
     );
 }
 
+/// 02, order 7, on one matrix, by a search over all its strings, of which the smallest come first:
+/// the string for each row, and none where p_v is 0 and nowhere else. Answers how many have none.
+fn strings_are_right(matrix: &Matrix) -> u64 {
+    let mut searched = vec![None; matrix.rows];
+    for bits in all_strings(matrix.columns) {
+        if let Some(row) = walk_bits(matrix, &bits).row {
+            searched[row].get_or_insert(pack(&bits));
+        }
+    }
+    let (file, room) = (matrix.encode(), matrix.columns.div_ceil(8));
+    let mut none = 0;
+    for (row, string) in searched.into_iter().enumerate() {
+        let found = string_for(&file, row, room).unwrap();
+        assert_eq!(found, string, "row {row} of {matrix:?}");
+        assert_eq!(found.is_none(), matrix.value(row).is_zero());
+        none += u64::from(found.is_none());
+    }
+    none
+}
+
+/// How many accepted matrices there are: of the C(2^n + m, m) choices of m numbers that add up to at
+/// most 2^n, those but the m in which one of them is 2^n.
+fn accepted(rows: u64, columns: usize) -> u64 {
+    let all = 1 << columns;
+    let choices = (1..=rows).fold(1, |choices, i| choices * (all + i) / i);
+    choices - rows
+}
+
+/// In all accepted matrices of a size, a row is all zero as often as there are accepted ones of the
+/// other rows.
+#[test]
+fn strings_for_the_rows_of_all_small_matrices() {
+    for (rows, columns) in small_sizes(12) {
+        let (mut matrices, mut none) = (0, 0);
+        for matrix in all_matrices(rows, columns).filter(Matrix::is_accepted) {
+            none += strings_are_right(&matrix);
+            matrices += 1;
+        }
+        let m = rows as u64;
+        assert_eq!(matrices, accepted(m, columns));
+        assert_eq!(none, m * accepted(m - 1, columns));
+    }
+}
+
+/// Up to 40 rows and 10 columns, some of which add up to 2^n.
+#[test]
+fn strings_for_the_rows_of_random_matrices() {
+    let mut random = Random::new(32);
+    let (mut none, mut whole) = (0, 0);
+    for _ in 0..300 {
+        let (rows, columns) = (random.between(1, 40), random.between(1, 10));
+        let matrix = random::matrix(&mut random, rows, columns);
+        none += strings_are_right(&matrix);
+        whole += usize::from(matrix.misses().is_zero());
+    }
+    assert!(none > 1_000 && whole > 60, "{none} and {whole}");
+}
+
+/// The number of the smallest string for a row, by sums: from 0 up the strings hit column after
+/// column, and in a column the rows from the last down, 2^(n-1-c) strings each 1 of column c.
+fn smallest_by_sums(matrix: &Matrix, row: usize) -> Option<Natural> {
+    let first = matrix.row(row).iter().position(|&bit| bit == 1)?;
+    let strings_of = |column: usize, from: usize| {
+        let ones = (from..matrix.rows).filter(|&v| matrix.bit(v, column));
+        Natural::from(ones.count() as u64).shifted_up(matrix.columns - 1 - column)
+    };
+    let before = strings_of(first, row + 1);
+    let sum = |sum: Natural, column: usize| sum.plus(&strings_of(column, 0));
+    Some((0..first).fold(before, sum))
+}
+
+/// 02, order 7, on a matrix with too many strings for a search: the walk hits the row on the string,
+/// in the first column in which it is set, and on the number one smaller it does not; the string is
+/// the one that the sums say, and where these say none there is none. Answers how many have none.
+fn strings_by_sums_are_right(matrix: &Matrix) -> usize {
+    let (n, file) = (matrix.columns, matrix.encode());
+    let mut none = 0;
+    for row in 0..matrix.rows {
+        let found = string_for(&file, row, n.div_ceil(8)).unwrap();
+        let number = found
+            .as_ref()
+            .map(|string| Natural::from_bits(&unpack(string, n)));
+        assert_eq!(number, smallest_by_sums(matrix, row));
+        assert_eq!(found.is_none(), matrix.value(row).is_zero());
+        let (Some(string), Some(mut number)) = (found, number) else {
+            none += 1;
+            continue;
+        };
+        // The walk refuses a spare bit that is set.
+        let walked = walk(&file, &string).unwrap();
+        assert_eq!(walked.row, Some(row));
+        assert!(matrix.bit(row, walked.used - 1));
+        assert!(!matrix.row(row)[..walked.used - 1].contains(&1));
+        if !number.is_zero() {
+            number.decrease();
+            assert_ne!(walk_bits(matrix, &number.bits(n)).row, Some(row));
+        }
+    }
+    none
+}
+
+/// The tables of the source documents, the longest program's matrix, and matrices of the most rows
+/// and columns. Of the table of 002 rows 82 to 86 have none.
+#[test]
+fn strings_for_the_rows_of_large_matrices() {
+    assert_eq!(strings_by_sums_are_right(&document_002()), 5);
+    for matrix in [document_001(), document_004(), longest_program()] {
+        assert_eq!(strings_by_sums_are_right(&matrix), 0);
+    }
+    let mut random = Random::new(33);
+    for either in [false, true] {
+        let parts = random::matrix_of_parts(&mut random, 128, 128, either);
+        strings_by_sums_are_right(&parts);
+        let by_columns = random::matrix_by_columns(&mut random, 128, 128, either);
+        strings_by_sums_are_right(&by_columns);
+    }
+}
+
+#[test]
+fn strings_for_the_rows_of_any_matrices() {
+    let mut random = Random::new(34);
+    let (mut rows, mut none) = (0, 0);
+    for _ in 0..200 {
+        let matrix = random::any_matrix(&mut random);
+        rows += matrix.rows;
+        none += strings_by_sums_are_right(&matrix);
+    }
+    assert!(none > 1_000 && rows - none > 1_000, "{none} of {rows}");
+}
+
+/// The compiled program gives the row in every lane that carries its string, whatever the others
+/// carry.
+#[test]
+fn programs_give_the_wanted_row_in_every_lane() {
+    let mut random = Random::new(35);
+    let mut tried = 0;
+    for _ in 0..40 {
+        let (rows, columns) = (random.between(1, 12), random.between(1, 20));
+        let matrix = random::matrix(&mut random, rows, columns);
+        let file = matrix.encode();
+        let program = compile(&file, usize::MAX).unwrap();
+        for row in 0..rows {
+            let Some(string) = string_for(&file, row, usize::MAX).unwrap() else {
+                continue;
+            };
+            let bits = unpack(&string, columns);
+            for lane in 0..64 {
+                assert_eq!(given_in(&mut random, lane, &program, &bits), Some(row));
+                tried += 1;
+            }
+        }
+    }
+    assert!(tried > 64 * 100, "{tried}");
+}
+
 #[test]
 fn files_are_read_and_written_alike() {
     let mut random = Random::new(12);
@@ -1001,4 +1163,31 @@ fn lent_tables_are_untouched_by_a_refusal() {
     assert_eq!(lookup(&[0, 2, 3], 5), (3, 77));
     assert_eq!(lookup(&[0, 2, 1], 1), (15, 77));
     assert_eq!(lookup(&[0, 4], 1), (16, 77));
+}
+
+/// A string is laid down at the front alone, none and a refusal lay nothing, and only a refusal
+/// leaves as it was whether there is one.
+#[test]
+fn lent_strings_are_untouched_by_none_and_by_a_refusal() {
+    let file = Matrix::from_texts(&["000000001", "111111111", "000000000"]).encode();
+    for before in [false, true] {
+        let string_for = |file: &[u8], row: usize, lent: usize| {
+            let (mut string, mut found) = ([0xa5; 4], before);
+            let returned = lent::string_for(file, row, &mut string[..lent], &mut found);
+            (returned, string, found)
+        };
+        for lent in [2, 3, 4] {
+            let laid = [0xff, 0x80, 0xa5, 0xa5];
+            assert_eq!(string_for(&file, 0, lent), (0, laid, true));
+            let laid = [0x00, 0x00, 0xa5, 0xa5];
+            assert_eq!(string_for(&file, 1, lent), (0, laid, true));
+            assert_eq!(string_for(&file, 2, lent), (0, [0xa5; 4], false));
+            assert_eq!(string_for(&file, 3, lent), (3, [0xa5; 4], before));
+            let short = &file[..file.len() - 1];
+            assert_eq!(string_for(short, 0, lent), (1, [0xa5; 4], before));
+        }
+        for row in [0, 1, 2] {
+            assert_eq!(string_for(&file, row, 1), (13, [0xa5; 4], before));
+        }
+    }
 }

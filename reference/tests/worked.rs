@@ -1,6 +1,7 @@
 //! 01, "Checked by hand": every case, with the answers that stand there. 02, by hand: order 1, the
 //! columns that these walks use; order 2, results of four samples; order 4, cumulative tables;
-//! order 5, weights for signed use; order 6, the value bits of every number of rows.
+//! order 5, weights for signed use; order 6, the value bits of every number of rows; order 7, strings
+//! for rows.
 
 use reference::compiler::{compile, translate, value_bits, VALUE_BIT_CASES};
 use reference::cumulative::{export, import, lookup, sums, Exported};
@@ -12,6 +13,7 @@ use reference::natural::Natural;
 use reference::program;
 use reference::refusal::Answer;
 use reference::walk::{spent, walk, Walked};
+use reference::wanted::string_for;
 use reference::weights::build;
 use reference::wide::{combine, combined_misses, result_counts, signed_counts, Counts};
 
@@ -492,4 +494,103 @@ fn what_can_not_be_imported() {
     }
     assert_eq!(import(&[0, 3], 2, 8), Err(13));
     assert_eq!(import(&[0, 3], 2, 9), Ok(file_of(&["11"])));
+}
+
+/// The strings for all rows of a matrix, with just enough room, as texts.
+fn strings_for(rows: &[&str]) -> Vec<Option<String>> {
+    let (file, columns) = (file_of(rows), rows[0].len());
+    let text = |string: Vec<u8>| {
+        let bits: String = string.iter().map(|byte| format!("{byte:08b}")).collect();
+        assert!(bits[columns..].bytes().all(|spare| spare == b'0'));
+        bits[..columns].to_string()
+    };
+    let string = |row| string_for(&file, row, columns.div_ceil(8)).unwrap();
+    (0..rows.len()).map(|row| string(row).map(text)).collect()
+}
+
+/// These strings, of which `-` is none.
+fn texts(strings: &[&str]) -> Vec<Option<String>> {
+    let text = |string: &&str| (*string != "-").then(|| string.to_string());
+    strings.iter().map(text).collect()
+}
+
+/// 02, order 7, on the rows 10, 01, 01, of which 01 says: strings 00 and 01 give 0, 10 gives 2, 11
+/// gives 1. Of the two for row 0 the first is the smaller.
+#[test]
+fn strings_for_three_rows() {
+    assert_eq!(strings_for(&["10", "01", "01"]), texts(&["00", "11", "10"]));
+    let file = file_of(&["10", "01", "01"]);
+    for (row, string) in [(0, 0x00), (1, 0xc0), (2, 0x80)] {
+        for string_lent in [1, 2, usize::MAX] {
+            assert_eq!(string_for(&file, row, string_lent), Ok(Some(vec![string])));
+        }
+        assert_eq!(string_for(&file, row, 0), Err(13));
+    }
+    assert_eq!(string_for(&file, 3, 1), Err(3));
+    assert_eq!(string_for(&file, 3, 0), Err(3));
+}
+
+/// Rows 001, 000, 010, 011. After column 1 the distance is the number of two bits: 00 hits row 3, 01
+/// row 2, and 10 and 11 have 0 and 1 left. Column 2 makes these 0 to 3: 100 hits row 3 again, 101
+/// row 0, and two strings miss. Row 1 is all zero.
+#[test]
+fn strings_for_rows_of_which_one_is_zero() {
+    let rows = ["001", "000", "010", "011"];
+    assert_eq!(strings_for(&rows), texts(&["101", "-", "010", "000"]));
+    // There is none, however long the room is, and none without room.
+    assert_eq!(string_for(&file_of(&rows), 1, usize::MAX), Ok(None));
+    assert_eq!(string_for(&file_of(&rows), 1, 0), Err(13));
+}
+
+#[test]
+fn strings_for_rows_of_one_column() {
+    assert_eq!(strings_for(&["1"]), texts(&["0"]));
+    assert_eq!(strings_for(&["0"]), texts(&["-"]));
+    // The last row is met first.
+    assert_eq!(strings_for(&["1", "1"]), texts(&["1", "0"]));
+    assert_eq!(strings_for(&["0", "1", "0"]), texts(&["-", "0", "-"]));
+    assert_eq!(strings_for(&["1", "0", "1"]), texts(&["1", "-", "0"]));
+}
+
+/// Row 0 is 1 and row 1 is 2^n - 1: every string that begins with 0 hits row 1 in column 0, every
+/// one that begins with 10 in column 1, and so on, and of the last two 1..10 hits row 1 too, which is
+/// met first, and 1..11 alone row 0. With the rows exchanged it is 1..10 that hits the 1.
+#[test]
+fn strings_for_rows_that_one_string_hits() {
+    for columns in [1, 2, 3, 7, 8, 9, 63, 64, 65, 127, 128] {
+        let zeros = "0".repeat(columns - 1);
+        let (one, ones) = (format!("{zeros}1"), "1".repeat(columns));
+        let zero = format!("{zeros}0");
+        let strings = texts(&[&ones, &zero]);
+        assert_eq!(strings_for(&[&one, &ones]), strings);
+        let last = format!("{}0", &ones[1..]);
+        // In one column both are met there, and the last row first.
+        let strings = match columns {
+            1 => texts(&["1", "0"]),
+            _ => texts(&[&zero, &last]),
+        };
+        assert_eq!(strings_for(&[&ones, &one]), strings);
+    }
+}
+
+/// Set in the last of n columns alone, 128 rows: after it the distance is the string's number, so
+/// that the string that spells s hits row 127 - s.
+#[test]
+fn strings_for_rows_of_the_last_column() {
+    for columns in [7, 8, 9, 16, 65, 128] {
+        let one = format!("{}1", "0".repeat(columns - 1));
+        let spelled = |v: usize| Some(format!("{:0columns$b}", 127 - v));
+        let strings: Vec<_> = (0..128).map(spelled).collect();
+        assert_eq!(strings_for(&[one.as_str(); 128]), strings);
+    }
+}
+
+/// Rows 0110, 0101, 0011: nothing is set in column 0. In column 1 00 hits row 1 and 01 row 0, both
+/// before the rows that are set later; 10 and 11 have 0 and 1 left. In column 2 these are 0 to 3: 100
+/// hits row 2, 101 row 0 again, and 110 and 111 have 0 and 1 left. In column 3 1100 hits row 2 and
+/// 1101 row 1 again.
+#[test]
+fn strings_for_rows_with_several_ones() {
+    let strings = texts(&["0100", "0000", "1000"]);
+    assert_eq!(strings_for(&["0110", "0101", "0011"]), strings);
 }

@@ -45,6 +45,12 @@ uint32_t through_spent(const uint8_t *file, size_t file_length, const uint8_t *s
 }
 SAME_TYPE(spent);
 
+uint32_t through_string_for(const uint8_t *file, size_t file_length, size_t row, uint8_t *string, size_t string_length, bool *found)
+{
+    return corkhollow_string_for(file, file_length, row, string, string_length, found);
+}
+SAME_TYPE(string_for);
+
 uint32_t through_compile(const uint8_t *file, size_t file_length, uint8_t *program, size_t program_length, size_t *length)
 {
     return corkhollow_compile(file, file_length, program, program_length, length);

@@ -30,6 +30,9 @@ const HEADER: Header = Header {
 /// One row 1 of one column: string 0 gives 0, string 1 misses.
 const ROW_1: [u8; 9] = [9, 0, 0x20, 0, 1, 0, 1, 0, 0x80];
 
+/// One row 0 of one column: both strings miss.
+const ROW_0: [u8; 9] = [9, 0, 0x20, 0, 1, 0, 1, 0, 0x00];
+
 const SIGN: u64 = 0x0123_4567_89ab_cdef;
 
 fn must(name: &'static str, holds: bool) -> Checked {
@@ -45,6 +48,7 @@ pub fn all() -> Checked {
     files()?;
     walks()?;
     bits_spent()?;
+    wanted_rows()?;
     let mut program = [0; 512];
     let length = corkhollow::compile(&FILE, &mut program).map_err(|_| "compile")?;
     let program = &program[..length];
@@ -111,6 +115,32 @@ fn bits_spent() -> Checked {
     must("spent", corkhollow::spent(&ROW_1, &strings(1)) == Ok(64))?;
     let short = corkhollow::spent(&FILE, &strings(2)[1..]);
     must("spent", short == Err(Refusal(13)))
+}
+
+/// 02, order 7: of the two strings that give 0 the smaller is 00, and a row 0 has none; 1, 3 and 13, also where there is none.
+fn wanted_rows() -> Checked {
+    for (row, string) in [(0, 0x00), (1, 0xc0), (2, 0x80)] {
+        let mut left = [7; 2];
+        let found = corkhollow::string_for(&FILE, row, &mut left);
+        must("string_for", found == Ok(true) && left == [string, 7])?;
+    }
+    let mut left = [7; 2];
+    let none = corkhollow::string_for(&ROW_0, 0, &mut left);
+    must("string_for", none == Ok(false) && left == [7; 2])?;
+    for (file, row, room, number) in [
+        (&FILE[..10], 0, 1, 1),
+        (&FILE, 3, 1, 3),
+        (&FILE, 3, 0, 3),
+        (&FILE, 2, 0, 13),
+        (&ROW_0, 0, 0, 13),
+    ] {
+        let refused = corkhollow::string_for(file, row, &mut left[..room]);
+        must(
+            "string_for",
+            refused == Err(Refusal(number)) && left == [7; 2],
+        )?;
+    }
+    Ok(())
 }
 
 /// All the strings of so many bits in turn, one a lane.

@@ -47,13 +47,17 @@ pub lays : {X A B P : Type 0} (say : X → Outcome B) (f : A → B) (o : Outcome
     Returns (say y) r → (r ≡ returned o) × P
 lays say f o c p a = (returns-of say f o c (p .0) a, p .1)
 
+-- a result is laid down, and one part of it told: whether a string was found
+pub lays-one : {X A B C P : Type 0} (say : X → Outcome B) (f : A → B) (one : B → C) (o : Outcome A) {x y : X} {r : ℕ} {first′ : C}
+    (first : C) → x ≡ y → (say x ≡ mapped f o) × P → Returns (say y) r → Tells one (say y) first first′ →
+    (r ≡ returned o) × P × (first′ ≡ told (λ a. one (f a)) o first)
+lays-one say f one o first c p a t = (returns-of say f o c (p .0) a, p .1, tells-of say f one o first c (p .0) t)
+
 -- a file is written, and its length told
 pub writes : {X P : Type 0} (say : X → Outcome ℕ) (o : Outcome (List ℕ)) {x y : X} {r length′ : ℕ} (length : ℕ) → x ≡ y →
     (say x ≡ mapped ListN.length o) × P → Returns (say y) r → Tells (λ n. n) (say y) length length′ →
     (r ≡ returned o) × P × (length′ ≡ told ListN.length o length)
-writes say o length c p a t =
-    let f : List ℕ → ℕ = ListN.length in
-    (returns-of say f o c (p .0) a, p .1, tells-of say f (λ n. n) o length c (p .0) t)
+writes say o length = lays-one say ListN.length (λ n. n) o length
 
 -- a result is laid down, and two parts of it told: the sizes of a matrix that is read, or of a table that is exported
 pub lays-two : {X A B P : Type 0} (say : X → Outcome B) (f : A → B) (one two : B → ℕ) (o : Outcome A) {x y : X} {r first′ second′ : ℕ}

@@ -14,6 +14,7 @@ pub use draws::corkhollow_draw_signed;
 pub use matrices::corkhollow_build;
 pub use matrices::corkhollow_read;
 pub use matrices::corkhollow_spent;
+pub use matrices::corkhollow_string_for;
 pub use matrices::corkhollow_walk;
 pub use matrices::corkhollow_write;
 pub use runs::corkhollow_check;

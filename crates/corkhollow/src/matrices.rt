@@ -1,5 +1,5 @@
-// For C: matrix files read, written, built and walked (include/corkhollow.h). Each function returns 0 or the refusal's number, and has the
-// contract of the operation that it wraps.
+// For C: matrix files read, written, built and walked, and strings for their rows (include/corkhollow.h). Each function returns 0 or the
+// refusal's number, and has the contract of the operation that it wraps.
 ghost use mathlib.Core.Path.{_≡_};
 ghost use lib.ListN;
 ghost use Rattle.laws.specs.Lay.{lay};
@@ -9,6 +9,7 @@ ghost use Rattle.weights.specs.Weights.{buildOf};
 ghost use Rattle.walk.specs.Walk.{walkOf};
 ghost use Rattle.lanes.specs.Samples.{code};
 ghost use Rattle.spent.specs.Spent.{spentOf};
+ghost use Rattle.wanted.specs.Wanted.{stringBytes, stringFound, wantedOf};
 ghost use Rattle.corkhollow.specs.Calls.{returned, told, usageOf};
 use fields::Written;
 use fields::number;
@@ -16,6 +17,7 @@ use files::Checked;
 use lanes::MISS;
 use spent::Total;
 use walk::Walked;
+use wanted::Wanted;
 use weights::Usage;
 
 // Reads a matrix file: its entries into `entries`, and its sizes.
@@ -147,6 +149,34 @@ pub extern "C" fn corkhollow_spent(file: &[u8], strings: &[u8], total: &mut usiz
         Total::Refused(why) => number(why),
         Total::Columns(n) => {
             *total = n;
+            0
+        }
+    }
+}
+
+// Lays the smallest string on which the walk of a matrix file hits a row into `string`, and tells whether there is one.
+#[no_mangle]
+pub extern "C" fn corkhollow_string_for(
+    file: &[u8],
+    row: usize,
+    string: &mut [u8],
+    found: &mut bool,
+) -> u32
+    ensures { λ r. ⌜ (
+        let o = wantedOf (now (file .entry)) row (ListN.length (now (string .entry))) in
+        (r ≡ returned o) ×
+        (now (string .exit) ≡ lay (laid stringBytes o) (now (string .entry))) ×
+        (now (found .exit) ≡ told stringFound o (now (found .entry)))
+        ) ⌝ }
+{
+    match wanted::string_for(file, row, string) {
+        Wanted::Refused(why) => number(why),
+        Wanted::Found => {
+            *found = true;
+            0
+        }
+        Wanted::None => {
+            *found = false;
             0
         }
     }

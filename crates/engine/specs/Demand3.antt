@@ -23,7 +23,7 @@ use Rattle.engine.specs.Given.{Choice, Fair, given, says, says-miss}
 use Rattle.engine.specs.Lanewise.{lane-draws}
 
 -- ---- answers and walks
-says-hits : (v : ℕ) (d : Drawn) → says v (gives (answerOf d)) ≡ hits v d
+pub says-hits : (v : ℕ) (d : Drawn) → says v (gives (answerOf d)) ≡ hits v d
 unfolding says hits
 says-hits v (hit u c) = refl
 says-hits v miss = refl

@@ -24,6 +24,7 @@ use Rattle.machine.specs.Runs.{startOf, startOn, resumeOf, resumeOn}
 use Rattle.walk.specs.Walk.{walkOf}
 use Rattle.lanes.specs.Slicing.{lanes, sliceOf}
 use Rattle.spent.specs.Spent.{spentOf}
+use Rattle.wanted.specs.Wanted.{wantedOf}
 use Rattle.cumulative.specs.Tables.{exportOf}
 use Rattle.compiler.specs.Translation.{compileOf}
 use Rattle.drawing.specs.Drawing.{drawnWith}
@@ -43,6 +44,10 @@ walk-through string = record { rest = _; goes-on = λ file. refl }
 pub spent-through : (strings : List ℕ) → Through matrixOf (λ file. spentOf file strings)
 unfolding spentOf
 spent-through strings = record { rest = _; goes-on = λ file. refl }
+
+pub string-for-through : (row room : ℕ) → Through matrixOf (λ file. wantedOf file row room)
+unfolding wantedOf
+string-for-through row room = record { rest = _; goes-on = λ file. refl }
 
 pub compile-through : (room : ℕ) → Through matrixOf (λ file. compileOf file room)
 unfolding compileOf

@@ -12,5 +12,6 @@ pub mod Wide
 pub mod WideDraws
 pub mod Signed
 pub mod Lookups
+pub mod Wanted
 pub mod Foreign
 pub mod Cases

@@ -6,7 +6,7 @@ use native.Mathlib.Nat.{add-zero, eq-or-lt-of-le, mod-eq-of-lt, mul-le-mul-right
 use native.Mathlib.Numerals.{add-one}
 use native.Mathlib.Omega.{arith}
 use lib.Bits.{bitAnd, and-mask}
-use lib.Pow.{high, low, mod-pow-add, pow-add, pow-mono}
+use lib.Pow.{high, low, mod-pow-add, pow-add, pow-mono, shl-shr}
 use Rattle.laws.specs.Tests.{reached}
 
 -- the number whose k digits are f c, f (c + 1), ..
@@ -148,3 +148,16 @@ number-zero f c (suc k) e =
 
 pub zero-digits : (f : ℕ → ℕ) (c k : ℕ) → ((i : ℕ) → c ≤ i → i < c + k → f i ≤ 1) → number f c k ≡ 0 → (i : ℕ) → c ≤ i → i < c + k → f i ≡ 0
 zero-digits f c k ok e = digits-of f (λ i. 0) k c ok (λ i a b. omega arith) (e ∙ sym (number-zero (λ i. 0) c k (λ i l. refl)))
+
+-- ---- digits behind a shift
+shifted : (a d t : ℕ) → a * 2 ^ (suc t + d) / 2 ^ d % 2 ≡ 0
+shifted a d t =
+    let e : a * 2 ^ (suc t + d) ≡ a * 2 ^ suc t * 2 ^ d = rw (pow-add 2 (suc t) d) (omega arith) in
+    rw (e, shl-shr (a * 2 ^ suc t) d, pow-succ' 2 t) (omega arith)
+
+-- of n digits that end in those of a at place c, all after it are 0
+pub digit-behind : (n a c i : ℕ) → c < i → i < n → digit n (a * 2 ^ (n - 1 - c)) i ≡ 0
+unfolding digit
+digit-behind n a c i h l =
+    let e : n - 1 - c ≡ suc (i - suc c) + (n - 1 - i) = omega arith in
+    rw e (shifted a (n - 1 - i) (i - suc c))

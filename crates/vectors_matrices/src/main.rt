@@ -1,4 +1,5 @@
-// The reference's vectors of matrix files and their programs: reading, writing, building, walking, adding up what walks use, and compiling.
+// The reference's vectors of matrix files and their programs: reading, writing, building, walking, adding up what walks use, finding
+// strings for rows, and compiling.
 // Standard input has a case a line, and for each an answer is printed; both are made by the reference (reference/README.md).
 mod compiled;
 mod matrices;
@@ -22,6 +23,7 @@ fn run_case(line: &[u8], program: &mut [u8]) {
         0x5 => compiled::compile_case(line, program),
         0xe => matrices::spent_case(line),
         0x10 => matrices::rewrite_case(line),
+        0x18 => matrices::string_for_case(line),
         _ => {}
     }
 }

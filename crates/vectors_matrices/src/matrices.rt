@@ -16,6 +16,7 @@ use fields::Written;
 use files::Checked;
 use spent::Total;
 use walk::Walked;
+use wanted::Wanted;
 use weights::Usage;
 
 // Room for entries that are lent.
@@ -130,6 +131,38 @@ pub(crate) fn spent_case(line: &[u8]) {
     let mut strings = [0u8; BYTES];
     let s = take_bytes(field(line, 2), &mut strings);
     print_spent(spent::spent(&file[..n], &strings[..s]));
+}
+
+// A string has as many bytes as the columns of its file take.
+fn print_wanted(answer: Wanted, string: &[u8; BYTES], laid: usize) {
+    match answer {
+        Wanted::Refused(why) => {
+            refuse(why);
+            see_bytes(string);
+        }
+        Wanted::None => {
+            begin();
+            print_size(0);
+            print_laid(string, 0);
+        }
+        Wanted::Found => {
+            begin();
+            print_size(1);
+            print_laid(string, laid);
+        }
+    }
+}
+
+// FILE row string-lent
+pub(crate) fn string_for_case(line: &[u8]) {
+    let mut file = [0u8; BYTES];
+    let n = take_bytes(field(line, 1), &mut file);
+    let row = size(field(line, 2));
+    let mut string = [FILL; BYTES];
+    let lent = least(size(field(line, 3)), BYTES);
+    let answer = wanted::string_for(&file[..n], row, &mut string[0..lent]);
+    let columns = least(fields::field(&file[..n], 6), fields::COLUMNS);
+    print_wanted(answer, &string, fields::width(columns));
 }
 
 // FILE, which is read; what was read is written

@@ -15,15 +15,23 @@ use lib.Pow.{pow-add}
 use Rattle.laws.specs.Tests.{never}
 use Rattle.laws.specs.Sums.{sumTo, sum-plus, sum-same, sum-times, sum-front-le}
 use Rattle.laws.specs.Digits.{number, number-more}
+use Rattle.laws.specs.Lists.{upto}
+use Rattle.laws.specs.Outcome.{gives, gives-inj}
 use Rattle.files.specs.Matrix.{Matrix, Accepted, bit, p, total, ones-in}
 use Rattle.files.specs.Live.{total-from}
-use Rattle.files.specs.RoundTrip.{accepted-bits}
-use Rattle.walk.specs.Walk.{Drawn, hit, miss, Place, found, left, scan, then, walk, drawn, hits}
+use Rattle.files.specs.Files.{matrixOf}
+use Rattle.files.specs.RoundTrip.{accepted-bits, read-accepted}
+use Rattle.fields.specs.Fields.{bitOf}
+use Rattle.fields.specs.Strings.{stringsOf}
+use Rattle.walk.specs.Walk.{Drawn, hit, miss, Place, found, left, scan, then, walk, drawn, used, hits}
+use Rattle.walk.specs.Walk.{sample, missed, answerOf, Spending, spendingOf, walkOf, isMiss}
 use Rattle.walk.specs.Steps.{Inside, walk-inside}
 use Rattle.walk.specs.Strings.{Bits}
 use Rattle.walk.specs.Numbers.{stringNumber, Among, string-none, string-more, front-iff}
 use Rattle.walk.specs.Ranks.{Ranked, scan-ranked, scan-passes, scan-finds}
-use Rattle.walk.specs.Theorems.{hit-inside, hit-set}
+use Rattle.walk.specs.Packed.{read-bits}
+use Rattle.walk.specs.Used.{told-hit}
+use Rattle.walk.specs.Theorems.{hit-inside, hit-set, walk-is}
 
 -- T of the first c columns of m rows
 abbrev pub total-to : (ℕ → ℕ → ℕ) → ℕ → ℕ → ℕ
@@ -267,3 +275,41 @@ module _ (M : Matrix) (a : Accepted M) (s : List ℕ) (b : Bits (M .columns) s) 
     (λ e. hitting v h (drawn M s) refl e),
     (λ q. hits-is v (q .0) (drawn M s) (hit-iff v (q .0) h (q .1) (q .2) .1 (q .3))),
   )
+
+-- ---- matrix files and packed strings
+module _ (file : List ℕ) (M : Matrix) (e : matrixOf file ≡ gives M) (string : List ℕ)
+    (sound : stringsOf 1 (M .columns) string ≡ gives tt) where
+  -- the number of the string's bits
+  abbrev pub readNumber : ℕ
+  readNumber = stringNumber (M .columns) (upto (M .columns) (bitOf string 0))
+
+  -- what is told of the walk is what is drawn
+  told-is : (w : Spending) → walkOf file string ≡ gives w → spendingOf (M .columns) (drawn M (upto (M .columns) (bitOf string 0))) ≡ w
+  told-is w g = gives-inj (sym (walk-is file M e string sound) ∙ g)
+
+  pub file-hit-iff : (v c : ℕ) → v < M .rows → c < M .columns → bit M v c ≡ 1 →
+      (walkOf file string ≡ gives (record { answer = sample v; used = c + 1 })) ↔
+      Among (firstNumber (bit M) (M .rows) (M .columns) v c) (2 ^ (M .columns - 1 - c)) readNumber
+  unfolding used
+  file-hit-iff v c h l o =
+      let n : ℕ = M .columns in
+      let s : List ℕ = upto n (bitOf string 0) in
+      let i = hit-iff M (read-accepted file M e) s (read-bits n string) v c h l o in
+      let z : c + 1 - 1 ≡ c = omega arith in (
+        (λ g. i .0 (rw z at (told-hit n (drawn M s) (record { answer = sample v; used = c + 1 }) v (told-is _ g) refl))),
+        (λ a. walk-is file M e string sound ∙ ap (λ (d : Drawn). gives (spendingOf n d)) (i .1 a)),
+      )
+
+  pub file-miss-iff : (walkOf file string ≡ gives (record { answer = missed; used = M .columns })) ↔ (total M ≤ readNumber)
+  unfolding used
+  file-miss-iff =
+      let n : ℕ = M .columns in
+      let s : List ℕ = upto n (bitOf string 0) in
+      let i = miss-iff M (read-accepted file M e) s (read-bits n string) in (
+        (λ g. i .0 (missed-is (drawn M s) (ap (λ (w : Spending). w .answer) (told-is _ g)))),
+        (λ a. walk-is file M e string sound ∙ ap (λ (d : Drawn). gives (spendingOf n d)) (i .1 a)),
+      )
+    where
+      missed-is : (d : Drawn) → answerOf d ≡ missed → d ≡ miss
+      missed-is (hit v c) q = never (ap isMiss q)
+      missed-is miss q = refl

@@ -11,12 +11,12 @@ use lib.ListN.{length, getD, length-append, List·getD-append}
 use lib.Seq.{take-all}
 use Rattle.laws.specs.Sums.{any}
 use Rattle.laws.specs.Digits.{digit, number-shift}
-use Rattle.laws.specs.Lists.{blocks, upto, upto-eq, take-is}
+use Rattle.laws.specs.Lists.{blocks, upto, upto-eq, length-upto, getD-upto, take-is}
 use Rattle.laws.specs.Outcome.{refuse, gives, _>>_}
 use Rattle.fields.specs.Fields.{width, packedBit, bitOf, packed, padded, padded-below, padded-above, length-packed, spare, spare-none}
 use Rattle.fields.specs.Limits.{outside, most-columns, inside}
 use Rattle.fields.specs.Strings.{stringsOf}
-use Rattle.fields.specs.Fields.{packed-bit}
+use Rattle.fields.specs.Fields.{bit-le, packed-bit}
 use Rattle.walk.specs.Strings.{Bits}
 
 -- a string of bits, packed as a matrix row
@@ -64,6 +64,14 @@ module _ (n : ℕ) (s : List ℕ) (b : Bits n s) where
   packedString-bits =
       upto-eq n (bitOf (packed n (λ i. getD s i 0)) 0) (λ i. getD s i 0) (string-bit n (λ i. getD s i 0) (b .each)) ∙
       (sym (take-is 0 n s (omega (arith, b .long))) ∙ take-all n s (omega (arith, b .long)))
+
+-- ---- what is read of any bytes is bits
+pub read-bits : (n : ℕ) (bytes : List ℕ) → Bits n (upto n (bitOf bytes 0))
+read-bits n bytes =
+    record {
+      long = length-upto n (bitOf bytes 0);
+      each = λ i l. rw (getD-upto n (bitOf bytes 0) i 0 l) (bit-le 8 bytes 0 i);
+    }
 
 -- ---- bytes behind the last one that a string needs do not count
 module _ (n : ℕ) (bytes more : List ℕ) (long : width n ≤ length bytes) where

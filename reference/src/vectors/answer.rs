@@ -11,6 +11,7 @@ use crate::matrix::{read, write};
 use crate::program::check;
 use crate::refusal::Answer;
 use crate::walk::{spent, walk};
+use crate::wanted::string_for;
 use crate::weights::build;
 use crate::wide::combine;
 
@@ -116,6 +117,12 @@ fn carry_out(task: Task, fields: &mut Fields) -> Result<Answer<Line>, Malformed>
         }),
         Task::Lookup => lookup(&fields.words()?, fields.size()?, fields.number()?)
             .map(|sample| done().size(sample.unwrap_or(usize::from(MISS)))),
+        Task::StringFor => {
+            string_for(&fields.bytes()?, fields.size()?, fields.size()?).map(|laid| {
+                let line = done().number(u64::from(laid.is_some()));
+                line.result(&laid.unwrap_or_default())
+            })
+        }
     })
 }
 
@@ -245,7 +252,7 @@ mod tests {
         assert_eq!(answer(&format!("e {file} {strings}")).unwrap(), "0 80");
         assert_eq!(answer(&format!("e {file} {}", &strings[2..])).unwrap(), "d");
         assert_eq!(answer("1 - 0").unwrap(), "1");
-        assert!(answer("18 00").is_err());
+        assert!(answer("19 00").is_err());
         assert!(answer("1 0").is_err());
     }
 
@@ -286,5 +293,22 @@ mod tests {
         assert_eq!(answer(&step).unwrap(), "10");
         assert_eq!(answer("15 - ffffffffffffffff 0").unwrap(), "3");
         assert!(answer(&format!("17 {file} 2 4")).is_err());
+    }
+
+    /// Of the rows 10, 01, 01 row 1 is hit by 11 alone; one row 0 is hit by no string.
+    #[test]
+    fn answers_lines_of_wanted_rows() {
+        let file = "0b00200003000200804040";
+        assert_eq!(answer(&format!("18 {file} 1 1")).unwrap(), "0 1 c0");
+        assert_eq!(answer(&format!("18 {file} 1 2")).unwrap(), "0 1 c0");
+        assert_eq!(answer(&format!("18 {file} 1 0")).unwrap(), "d");
+        assert_eq!(answer(&format!("18 {file} 3 0")).unwrap(), "3");
+        let any = format!("18 {file} ffffffffffffffff 1");
+        assert_eq!(answer(&any).unwrap(), "3");
+        let zero = "090020000100010000";
+        assert_eq!(answer(&format!("18 {zero} 0 1")).unwrap(), "0 0 -");
+        assert_eq!(answer(&format!("18 {zero} 0 0")).unwrap(), "d");
+        assert!(answer(&format!("18 {file} 1")).is_err());
+        assert!(answer(&format!("18 {file} 1 1 1")).is_err());
     }
 }

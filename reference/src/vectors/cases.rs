@@ -105,6 +105,11 @@ pub fn lookup(table: &[u64], columns: usize, r: u64) -> Line {
     line.size(columns).number(r)
 }
 
+pub fn string_for(file: &[u8], row: usize, string_lent: usize) -> Line {
+    let line = Line::new(Task::StringFor).array(file);
+    line.size(row).size(string_lent)
+}
+
 /// A matrix file is read, and what was read is written.
 pub fn rewrite(file: &[u8]) -> Line {
     Line::new(Task::Rewrite).array(file)

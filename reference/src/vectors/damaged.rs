@@ -1,7 +1,7 @@
 //! Damaged files: every length, every field, every bit of small files, and two faults at once.
 
 use super::cases::{check, compile, draw, draw_signed, export, read, resume, rewrite, spent};
-use super::cases::{start, walk};
+use super::cases::{start, string_for, walk};
 use super::line::Line;
 use super::sound::around;
 use crate::compiler::translate;
@@ -34,10 +34,12 @@ pub fn fixed(put: &mut dyn FnMut(Line)) {
         |file| read(file, 0),
         put,
     );
-    // Each with the next, and strings that are too short and have spare bits set.
+    // Each with the next, and strings that are too short and have spare bits set, or a row that
+    // there is not and no room.
     for pair in of_matrix.windows(2) {
         let damaged = edited(&edited(&small, &pair[0]), &pair[1]);
         put(spent(&damaged, &[0xff; 63]));
+        put(string_for(&damaged, 3, 0));
     }
     let of_program = program_faults(&least);
     faults(&least, &of_program, all_uses_of_program, check, put);
@@ -104,6 +106,7 @@ pub fn all_uses_of_matrix(file: &[u8], put: &mut dyn FnMut(Line)) {
     put(compile(file, 0));
     put(rewrite(file));
     put(export(file, 0));
+    put(string_for(file, usize::MAX, 0));
 }
 
 /// A program file given to each operation that takes one, with nothing else in order.
@@ -127,6 +130,7 @@ pub fn thorough(put: &mut dyn FnMut(Line)) {
             put(spent(&damaged, &[0x40; 128]));
             put(compile(&damaged, 0));
             put(export(&damaged, 4));
+            put(string_for(&damaged, 1, 2));
         }
     }
     let three = translate(&Matrix::from_texts(&["10", "01", "01"])).encode();

@@ -31,11 +31,12 @@ pub enum Task {
     Import = 0x15,
     Export = 0x16,
     Lookup = 0x17,
+    StringFor = 0x18,
 }
 
 impl Task {
     /// All of them.
-    pub const ALL: [Task; 23] = [
+    pub const ALL: [Task; 24] = [
         Task::Read,
         Task::Write,
         Task::Build,
@@ -59,6 +60,7 @@ impl Task {
         Task::Import,
         Task::Export,
         Task::Lookup,
+        Task::StringFor,
     ];
 
     /// The operation with this number.
@@ -76,7 +78,7 @@ impl Task {
     pub fn program(self) -> &'static str {
         match self {
             Task::Read | Task::Write | Task::Build | Task::Walk => "vectors_matrices",
-            Task::Compile | Task::Spent | Task::Rewrite => "vectors_matrices",
+            Task::Compile | Task::Spent | Task::Rewrite | Task::StringFor => "vectors_matrices",
             Task::Check | Task::Start | Task::Resume => "vectors_runs",
             Task::Stops | Task::LongCheck | Task::LongStart => "vectors_runs",
             Task::Slice | Task::Samples | Task::SignedSamples => "vectors_lanes",

@@ -9,6 +9,7 @@ mod foreign;
 pub mod line;
 mod runs;
 mod sound;
+mod wanted;
 mod weights;
 mod wide;
 mod worked;
@@ -34,6 +35,7 @@ pub fn each_given(scale: usize, mut visit: impl FnMut(&str)) {
     wide::fixed(&mut Random::new(SEED), &mut put);
     cumulative::fixed(&mut Random::new(SEED), &mut put);
     weights::fixed(&mut put);
+    wanted::fixed(&mut Random::new(SEED), &mut put);
     if scale > 1 {
         damaged::thorough(&mut put);
         foreign::thorough(&mut put);
@@ -41,6 +43,7 @@ pub fn each_given(scale: usize, mut visit: impl FnMut(&str)) {
         wide::thorough(&mut put);
         cumulative::thorough(&mut put);
         weights::thorough(&mut put);
+        wanted::thorough(&mut put);
     }
     for round in 1..=scale {
         let random = &mut Random::new(SEED + round as u64);
@@ -50,5 +53,6 @@ pub fn each_given(scale: usize, mut visit: impl FnMut(&str)) {
         wide::round(random, &mut put);
         cumulative::round(random, &mut put);
         weights::round(random, &mut put);
+        wanted::round(random, &mut put);
     }
 }

@@ -6,6 +6,7 @@ use crate::lanes::{draw_on, draw_signed_on};
 use crate::matrices::{compile_on, read_on, spent_on, walk_on};
 use crate::programs::{check_on, resume_on, start_on, Words};
 use crate::trial::{fail, Trial};
+use crate::wanted::string_for_on;
 use reference::compiler::translate;
 use reference::matrix::Matrix;
 use reference::random::Random;
@@ -18,15 +19,18 @@ const FOREIGN: u32 = 2;
 type Call = fn(&mut Trial, &mut Random, &[u8]) -> u32;
 
 /// The functions that take a matrix file.
-const OF_MATRIX: [(&str, Call); 5] = [
+const OF_MATRIX: [(&str, Call); 6] = [
     ("read", |trial, random, file| {
         read_on(trial, random, file, 0)
     }),
     ("walk", |trial, random, file| {
-        walk_on(trial, random, file, &[])
+        walk_on(trial, random, file, &[]).0
     }),
     ("spent", |trial, random, file| {
         spent_on(trial, random, file, &[])
+    }),
+    ("string_for", |trial, random, file| {
+        string_for_on(trial, random, file, usize::MAX, &[]).0
     }),
     ("compile", |trial, random, file| {
         compile_on(trial, random, file, 0).0
@@ -46,7 +50,7 @@ const OF_PROGRAM: [(&str, Call); 5] = [
         resume_on(trial, random, file, &Words::default(), u32::MAX, 0)
     }),
     ("draw", |trial, random, file| {
-        draw_on(trial, random, file, &[], 0)
+        draw_on(trial, random, file, &[], 0).0
     }),
     ("draw_signed", |trial, random, file| {
         draw_signed_on(trial, random, file, &[], 0, 0).0

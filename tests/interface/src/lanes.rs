@@ -133,19 +133,20 @@ pub fn draw(trial: &mut Trial, random: &mut Random, stock: &Stock) {
     draw_on(trial, random, &program, &strings, samples);
 }
 
-/// Draws into room for so many samples. Returns the number that engine and reference return, as `draw_signed_on` does.
+/// Draws into room for so many samples. Returns the number that engine and reference return, and the samples as they are left, as
+/// `draw_signed_on` does.
 pub fn draw_on(
     trial: &mut Trial,
     random: &mut Random,
     program: &[u8],
     strings: &[u8],
     samples: usize,
-) -> u32 {
+) -> (u32, Vec<u8>) {
     let mut memory = Memory::new(random);
     let program = memory.lend("program", program);
     let strings = memory.lend("strings", strings);
     let samples = memory.room("samples", samples);
-    trial.compare(
+    let returned = trial.compare(
         &memory,
         |view| unsafe {
             lent::draw(
@@ -164,7 +165,9 @@ pub fn draw_on(
                 samples.length,
             )
         },
-    )
+    );
+    // SAFETY: the block that is left lives, and nothing else uses it.
+    (returned, unsafe { trial.left().slice(samples) }.to_vec())
 }
 
 pub fn draw_signed(trial: &mut Trial, random: &mut Random, stock: &Stock) {
@@ -173,7 +176,7 @@ pub fn draw_signed(trial: &mut Trial, random: &mut Random, stock: &Stock) {
     draw_signed_on(trial, random, &program, &strings, sign, samples);
 }
 
-/// Draws with a sign word. Returns the samples too, as they are left.
+/// Draws with a sign word.
 pub fn draw_signed_on(
     trial: &mut Trial,
     random: &mut Random,

@@ -17,6 +17,7 @@ mod stack;
 mod table;
 mod trial;
 mod values;
+mod wanted;
 mod weights;
 mod wide;
 mod wrappers;
@@ -52,7 +53,7 @@ const fn operation(
     }
 }
 
-const OPERATIONS: [Operation; 20] = [
+const OPERATIONS: [Operation; 21] = [
     operation("read", matrices::read, &[1, 2, 3, 4, 5, 6, 13]),
     operation("write", matrices::write, &[3, 5, 6, 13]),
     // Each list is built twice.
@@ -66,6 +67,7 @@ const OPERATIONS: [Operation; 20] = [
     },
     operation("walk", matrices::walk, &[1, 2, 3, 4, 5, 6, 13]),
     operation("spent", matrices::spent, &[1, 2, 3, 4, 5, 6, 13]),
+    operation("string_for", wanted::string_for, &[1, 2, 3, 4, 5, 6, 13]),
     operation("compile", matrices::compile, &[1, 2, 3, 4, 5, 6, 13]),
     operation("check", programs::check, &[1, 2, 3, 4, 7, 8, 9, 10]),
     operation("start", programs::start, &[1, 2, 3, 4, 7, 8, 9, 10, 13]),
@@ -104,6 +106,7 @@ fn main() {
     cumulative::compare();
     weights::compare();
     values::compare();
+    wanted::compare();
     let stock = Stock::new(&mut Random::new(seed));
     let numbers: Vec<String> = (1..ANSWERS).map(|refusal| refusal.to_string()).collect();
     print_row("operation", "stack", "cases", "done", &numbers);

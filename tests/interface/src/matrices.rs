@@ -146,13 +146,14 @@ pub fn walk(trial: &mut Trial, random: &mut Random, stock: &Stock) {
     walk_on(trial, random, &file, &string);
 }
 
-pub fn walk_on(trial: &mut Trial, random: &mut Random, file: &[u8], string: &[u8]) -> u32 {
+/// Walks on a string. Returns the row too, as it is left.
+pub fn walk_on(trial: &mut Trial, random: &mut Random, file: &[u8], string: &[u8]) -> (u32, usize) {
     let mut memory = Memory::new(random);
     let file = memory.lend("file", file);
     let string = memory.lend("string", string);
     let row = memory.number("row");
     let used = memory.number("used");
-    trial.compare(
+    let returned = trial.compare(
         &memory,
         |view| unsafe {
             let (row, used) = (view.number(row), view.number(used));
@@ -168,7 +169,9 @@ pub fn walk_on(trial: &mut Trial, random: &mut Random, file: &[u8], string: &[u8
                 view.pointer(used),
             )
         },
-    )
+    );
+    // SAFETY: the block that is left lives, and nothing else uses it.
+    (returned, unsafe { *trial.left().number(row) })
 }
 
 pub fn spent(trial: &mut Trial, random: &mut Random, stock: &Stock) {

@@ -33,6 +33,8 @@ tables! {
         (*const u8, usize, *const u8, usize, *mut usize, *mut usize);
     spent: through_spent, corkhollow_spent
         (*const u8, usize, *const u8, usize, *mut usize);
+    string_for: through_string_for, corkhollow_string_for
+        (*const u8, usize, usize, *mut u8, usize, *mut bool);
     compile: through_compile, corkhollow_compile
         (*const u8, usize, *mut u8, usize, *mut usize);
     check: through_check, corkhollow_check

@@ -44,6 +44,9 @@ pub fn compare() {
     let or_less = |sound: bool, bytes: &[u8]| bytes[..bytes.len() - usize::from(!sound)].to_vec();
     both("walk", |sound| walk(&or_less(sound, &file)));
     both("spent", |sound| spent(&or_less(sound, &file)));
+    both("string_for", |sound| {
+        string_for(&file, if sound { 1 } else { 3 })
+    });
     both("compile", |sound| compile(&or_less(sound, &file)));
     both("check", |sound| check(&or_less(sound, &program)));
     both("start", |sound| start(&or_less(sound, &program)));
@@ -138,6 +141,20 @@ fn spent_on(file: &[u8], strings: &[u8]) -> bool {
     let returned = lent::spent(file, strings, &mut total);
     let answer = binding::spent(file, strings);
     same("spent", (answer, ()), (returned, total, ()))
+}
+
+/// A string, and none.
+fn string_for(file: &[u8], row: usize) -> bool {
+    let zero = Matrix::from_texts(&["0"]).encode();
+    string_for_on(&zero, 0) && string_for_on(file, row)
+}
+
+fn string_for_on(file: &[u8], row: usize) -> bool {
+    let (mut left, mut wanted) = ([7; 3], [7; 3]);
+    let mut found = false;
+    let answer = binding::string_for(file, row, &mut left);
+    let returned = lent::string_for(file, row, &mut wanted, &mut found);
+    same("string_for", (answer, left), (returned, found, wanted))
 }
 
 fn compile(file: &[u8]) -> bool {
