@@ -1,7 +1,8 @@
 /*
  * A self-test, such as a module runs before it goes into service. For each row of a table it asks for the smallest string that gives the
  * row, sees that the walk hits the row on it, and draws it in each of the 64 lanes of the compiled program in turn, with strings from
- * /dev/urandom in the other lanes: whatever these carry, the lane must give the row. Where one gives another, says which, with status 1.
+ * /dev/urandom in the other lanes: whatever these carry, the lane must give the row. A row that is not all zero must have a string, and one
+ * that is must have none. What differs is told, with status 1.
  *
  * The table is that of paper 002, of sigma 6.15543 and 128 columns. It has 87 rows, of which the last are all zero: these have no string.
  */
@@ -16,6 +17,7 @@ enum { ROWS = 87, COLUMNS = 128, WIDTH = 16 };
 
 _Static_assert(WIDTH == CORKHOLLOW_WIDTH(COLUMNS) && 8 * WIDTH == COLUMNS, "the bytes of a string, without a spare bit to clear");
 
+static uint8_t entries[CORKHOLLOW_MOST_ENTRIES];
 static uint8_t matrix[CORKHOLLOW_MATRIX_LENGTH(ROWS, COLUMNS)], program[CORKHOLLOW_MOST_PROGRAM_BYTES];
 static size_t matrix_length, program_length;
 
@@ -26,8 +28,10 @@ static struct {
 
 /* The exact table, rows of zero included, and its program. */
 static void prepare(void) {
-    static uint8_t entries[CORKHOLLOW_MOST_ENTRIES];
-    gaussian_table(SIGMA, COLUMNS, entries);
+    if (gaussian_table(SIGMA, COLUMNS, entries) > ROWS) {
+        fprintf(stderr, "sigma %s takes more than %d rows\n", SIGMA, ROWS);
+        exit(1);
+    }
     must("corkhollow_write", corkhollow_write(ROWS, COLUMNS, entries, sizeof entries, matrix, sizeof matrix, &matrix_length));
     must("corkhollow_compile", corkhollow_compile(matrix, matrix_length, program, sizeof program, &program_length));
 }
@@ -62,6 +66,10 @@ static void test(size_t row, FILE *source) {
     uint8_t string[WIDTH];
     bool found;
     must("corkhollow_string_for", corkhollow_string_for(matrix, matrix_length, row, string, sizeof string, &found));
+    if (found == !memchr(entries + row * COLUMNS, 1, COLUMNS)) {
+        fprintf(stderr, "row %zu: %s string\n", row, found ? "all zero, and yet a" : "set, and yet no");
+        exit(1);
+    }
     if (!found) {
         seen.zero[seen.without++] = row;
         return;

@@ -55,7 +55,7 @@ enum corkhollow_refusal {
                                    14, an instruction cut short */
     CORKHOLLOW_KIND = 2,        /* the first record is not of the kind expected: another file, also one cut short, from 4 bytes on */
     CORKHOLLOW_SIZE = 3,        /* rows, columns, weights, registers, inputs, outputs, instructions, output words, numbers of a cumulative
-                                   table, a number that is looked up, or a row that is asked for, outside the limits */
+                                   table, or a number that is looked up, outside the limits; a row asked for that the matrix has not */
     CORKHOLLOW_LENGTH = 4,      /* a length field that is not what the header requires, or bytes left over */
     CORKHOLLOW_BIT = 5,         /* a spare bit set, an entry neither 0 nor 1, or an entry of a list that is no signed sample */
     CORKHOLLOW_SUM = 6,         /* the rows of the matrix add up to more than 2^columns */

@@ -226,7 +226,7 @@ impl fmt::Display for Refusal {
         let why = match self.0 {
             1 => "shorter than its records say",
             2 => "not the kind of file expected",
-            3 => "a size, a number that is looked up, or a row that is asked for, outside the limits",
+            3 => "a size, or a number that is looked up, outside the limits, or a row that the matrix has not",
             4 => "a length field that does not fit, or bytes left over",
             5 => "a spare bit set, an entry neither 0 nor 1, or one of a list that is no signed sample",
             6 => "the rows add up to more than 2^columns",

@@ -7,7 +7,7 @@ pub type Answer<T> = Result<T, u32>;
 pub const SHORT: u32 = 1;
 /// The first record's kind is not the one expected.
 pub const KIND: u32 = 2;
-/// A size, a number that is looked up, or the number of a row, outside its limits.
+/// A size, or a number that is looked up, outside its limits, or a row that the matrix has not.
 pub const SIZE: u32 = 3;
 /// A length field that is not what the header requires, or bytes left over.
 pub const LENGTH: u32 = 4;

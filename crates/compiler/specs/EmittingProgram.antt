@@ -7,14 +7,14 @@ use mathlib.Core.List.{List, _++_}
 use native.Mathlib.Omega.{arith}
 use borrow.Author.Tests.{lt-ltb}
 use lib.ListN.{length, drop, length-append}
-use Rattle.laws.specs.Sums.{sum-eq}
 use Rattle.laws.specs.Lists.{blocks, blocks-eq}
 use Rattle.laws.specs.Lay.{lay, lay-is, length-lay, laid-after}
 use Rattle.laws.specs.Outcome.{refused, gives, mapped, laid, mapped-gives, mapped-refused}
 use Rattle.fields.specs.Fields.{width, bit-le}
-use Rattle.files.specs.Matrix.{Matrix, Accepted, sizes, bit, most-rows, ones-in}
+use Rattle.files.specs.Matrix.{Matrix, Accepted, sizes, bit, most-rows}
 use Rattle.fields.specs.Limits.{most-columns}
 use Rattle.files.specs.Files.{matrixOf, unpacked}
+use Rattle.files.specs.Live.{ones-eq}
 use Rattle.files.specs.Checks.{unpacked-bit, matrix-read, checked-whole}
 use Rattle.files.specs.RoundTrip.{read-accepted}
 use Rattle.programs.specs.Limits.{most-instructions, within}
@@ -69,14 +69,10 @@ pub record Planned (bytes : List ℕ) (m n k count room : ℕ) : Type 0 where
 
 -- ---- the program depends on the bits within the sizes alone
 module _ (m n : ℕ) (f g : ℕ → ℕ → ℕ) (same : (v c : ℕ) → v < m → c < n → f v c ≡ g v c) where
-  ones-in-eq : (c : ℕ) → c < n → ones-in f m c ≡ ones-in g m c
-  unfolding ones-in
-  ones-in-eq c h = sum-eq m (λ v. f v c) (λ v. g v c) (λ v l. same v c l h)
-
   live-eq : (c : ℕ) → c ≤ n → liveBefore f m c ≡ liveBefore g m c
   unfolding liveBefore
   live-eq zero h = refl
-  live-eq (suc c) h = rw (live-eq c (omega arith), ones-in-eq c h)
+  live-eq (suc c) h = rw (live-eq c (omega arith), ones-eq f g m n same m c (omega arith) h)
 
   marks-eq : (k r j c : ℕ) → r ≤ m → c < n → marks k m (λ v. f v c) r j ≡ marks k m (λ v. g v c) r j
   unfolding marks
@@ -85,7 +81,9 @@ module _ (m n : ℕ) (f g : ℕ → ℕ → ℕ) (same : (v c : ℕ) → v < m �
 
   column-eq : (k c : ℕ) → c < n → column k m f c ≡ column k m g c
   unfolding column
-  column-eq k c h = rw (live-eq c (omega arith), live-eq (suc c) h, ones-in-eq c h, marks-eq k m 0 c (omega arith) h)
+  column-eq k c h =
+      let ones = ones-eq f g m n same m c (omega arith) h in
+      rw (live-eq c (omega arith), live-eq (suc c) h, ones, marks-eq k m 0 c (omega arith) h)
 
   translation-eq : (k : ℕ) → translationOf k m n f ≡ translationOf k m n g
   translation-eq k = rw (blocks-eq n (column k m f) (column k m g) (λ c h. column-eq k c h))
@@ -95,7 +93,7 @@ module _ (m n : ℕ) (f g : ℕ → ℕ → ℕ) (same : (v c : ℕ) → v < m �
       record {
         some-rows = r .some-rows;
         bits = ok;
-        room = λ c h. omega (arith, r .room c h, ones-in-eq c h, live-eq c (omega arith));
+        room = λ c h. omega (arith, r .room c h, ones-eq f g m n same m c (omega arith) h, live-eq c (omega arith));
       }
 
 -- ---- the program of packed rows, by what is counted of it

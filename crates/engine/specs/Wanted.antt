@@ -1,6 +1,6 @@
 -- 02, order 7, of compiled programs: on the string for a row the program of that file gives the row, in every lane, whatever the other
--- lanes, what was there before, the budget, and stops that are resumed as left; on no smaller string; and a row without a string is never
--- given. Assumes nothing.
+-- lanes, what was there before, and stops that are resumed as left, with budgets that together are not below the count; on no smaller
+-- string; and a row without a string is never given. Assumes nothing.
 use Prim.Native.Nat.{ℕ, _*_, _^_, _≤_, _<_}
 use mathlib.Core.Path.{_≡_, sym, ap, _∙_}
 use mathlib.Core.Bool.{false}
@@ -8,6 +8,7 @@ use mathlib.Core.List.{List}
 use mathlib.Core.Option.{none, some}
 use native.Mathlib.Omega.{arith}
 use borrow.Author.Tests.{le-ltb}
+use lib.Dec.{ltb}
 use lib.ListN.{length, getD, take}
 use Rattle.laws.specs.Sums.{any, any-all}
 use Rattle.laws.specs.Lists.{blocks, upto, upto-eq, getD-upto, length-blocks}
@@ -32,7 +33,7 @@ use Rattle.compiler.specs.Compiled.{compile-accepted}
 use Rattle.drawing.specs.Drawing.{drawOf}
 use Rattle.wanted.specs.Wanted.{wantedOf}
 use Rattle.wanted.specs.Theorems.{SmallestString, never-hit}
-use Rattle.wanted.specs.Files.{zero-iff, given-long, given-packed, given-least, given-draws}
+use Rattle.wanted.specs.Files.{zero-iff, laid-long, laid-packed, laid-least, laid-draws}
 use Rattle.engine.specs.Given.{laneBits, Choice, Fair, given, says}
 use Rattle.engine.specs.Lanewise.{lane-draws}
 use Rattle.engine.specs.Demand2.{demand-2-stops}
@@ -64,11 +65,11 @@ module _ (file : List ℕ) (M : Matrix) (e : matrixOf file ≡ gives M) (space :
     string = upto (M .columns) (bitOf bytes 0)
 
     least : SmallestString M row string
-    least = given-least file M e row room bytes g
+    least = laid-least file M e row room bytes g
 
     -- the string for a row: whichever lane carries it, the program gives the row there
     pub wanted-given : (choice : Choice) → Fair (program M) string choice → given program′ choice ≡ gives (sample row)
-    wanted-given choice f = given-is string (least .bits) choice f ∙ ap gives (given-draws file M e row room bytes g)
+    wanted-given choice f = given-is string (least .bits) choice f ∙ ap gives (laid-draws file M e row room bytes g)
 
     -- a string with a smaller number: it does not
     pub smaller-given : (s : List ℕ) → Bits (M .columns) s → stringNumber (M .columns) s < stringNumber (M .columns) string →
@@ -86,7 +87,7 @@ module _ (file : List ℕ) (M : Matrix) (e : matrixOf file ≡ gives M) (space :
     wanted-stops inputs registers outputs small i r o b bs j h enough jl carries =
         rw is
         (demand-2-stops file M e inputs registers outputs small i r o b bs j h enough jl ∙
-        (ap (λ (s : List ℕ). gives (answerOf (drawn M s))) carries ∙ ap gives (given-draws file M e row room bytes g)))
+        (ap (λ (s : List ℕ). gives (answerOf (drawn M s))) carries ∙ ap gives (laid-draws file M e row room bytes g)))
 
     -- ---- drawn: wherever it stands among 64 strings, its sample is the row
     pub wanted-drawn : (strings : List ℕ) → stringsOf lanes (M .columns) strings ≡ gives tt → (samples : List ℕ) (free : ℕ) → lanes ≤ free →
@@ -101,7 +102,7 @@ module _ (file : List ℕ) (M : Matrix) (e : matrixOf file ≡ gives M) (space :
         gives-inj (sym d ∙ (ap (λ (p : List ℕ). drawOf p strings free) is ∙ draw-walks file M e strings sound free l)) in
         rw all
         (getD-upto lanes (λ j. code (drawnAt M strings j)) j 0 h ∙
-        (ap (λ (s : List ℕ). code (answerOf (drawn M s))) here ∙ ap code (given-draws file M e row room bytes g)))
+        (ap (λ (s : List ℕ). code (answerOf (drawn M s))) here ∙ ap code (laid-draws file M e row room bytes g)))
 
     -- ---- and so it is in all 64 lanes at once
     abbrev everywhere : List ℕ
@@ -113,7 +114,7 @@ module _ (file : List ℕ) (M : Matrix) (e : matrixOf file ≡ gives M) (space :
     unfolding packedString
     bit-there j i h l =
         let n : ℕ = M .columns in
-        ap (λ (b : List ℕ). bitOf (blocks lanes (λ j. b)) (j * width n) i) (given-packed file M e row room bytes g) ∙
+        ap (λ (b : List ℕ). bitOf (blocks lanes (λ j. b)) (j * width n) i) (laid-packed file M e row room bytes g) ∙
         packed-bit n (λ v i. getD string i 0) lanes j i (least .bits .each) h l
 
     sound-there : stringsOf lanes (M .columns) everywhere ≡ gives tt
@@ -121,11 +122,14 @@ module _ (file : List ℕ) (M : Matrix) (e : matrixOf file ≡ gives M) (space :
     sound-there =
         let n : ℕ = M .columns in
         let a = read-accepted file M e in
-        let long : length everywhere ≡ lanes * width n = length-blocks (width n) (λ j. bytes) (λ j. given-long file M e row room bytes g) lanes in
+        let one = laid-long file M e row room bytes g in
+        let long : length everywhere ≡ lanes * width n = length-blocks (width n) (λ j. bytes) (λ j. one) lanes in
         let clear : any lanes (λ j. spare everywhere n (j * width n)) ≡ false =
         any-all lanes (λ j. spare everywhere n (j * width n))
         (λ j h. spare-none everywhere n (j * width n) (λ i k l. bit-there j i h l ∙ sym (padded-above n (λ i. getD string i 0) i k))) in
-        rw (inside most-columns n (a .some-columns) (a .few-columns), le-ltb (length everywhere) (lanes * width n) (omega (arith, long)), clear)
+        let there : ltb (length everywhere) (lanes * width n) ≡ false =
+        le-ltb (length everywhere) (lanes * width n) (omega (arith, long)) in
+        rw (inside most-columns n (a .some-columns) (a .few-columns), there, clear)
 
     drawn-there : (j : ℕ) → j < lanes → code (drawnAt M everywhere j) ≡ row
     drawn-there j h =
@@ -134,7 +138,7 @@ module _ (file : List ℕ) (M : Matrix) (e : matrixOf file ≡ gives M) (space :
         upto-eq n (bitOf everywhere (j * width n)) (bitOf bytes 0)
         (λ i k. bit-there j i h (omega arith) ∙
         (sym (padded-below n (λ i. getD string i 0) i k) ∙ getD-upto n (bitOf bytes 0) i 0 k)) in
-        ap (λ (l : List ℕ). code (answerOf (drawn M l))) here ∙ ap code (given-draws file M e row room bytes g)
+        ap (λ (l : List ℕ). code (answerOf (drawn M l))) here ∙ ap code (laid-draws file M e row room bytes g)
 
     pub wanted-everywhere : (free : ℕ) → lanes ≤ free → drawOf program′ (blocks lanes (λ j. bytes)) free ≡ gives (upto lanes (λ j. row))
     wanted-everywhere free l =

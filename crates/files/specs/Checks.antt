@@ -9,8 +9,6 @@ use borrow.Author.Tests.{lt-ltb, le-ltb, eq-eqb, ne-eqb, ltb-false, le-leb, lt-l
 use lib.Dec.{eqb, ltb, leb}
 use lib.ListN.{length, take, drop, length-drop}
 use Rattle.laws.specs.Tests.{lt-or-ge}
-use Rattle.laws.specs.Sums.{sum-eq}
-use Rattle.laws.specs.Digits.{number, number-shift}
 use Rattle.laws.specs.Lists.{row-end, rest-is}
 use Rattle.laws.specs.Outcome.{refused, gives, refuse, _>>_, passed, bound, mapped, mapped-gives, mapped-refused, gives-inj}
 use Rattle.fields.specs.Limits.{most-columns, inside, within}
@@ -19,7 +17,7 @@ use Rattle.fields.specs.Strings.{anySpare, stringsOf, strings-whole}
 use Rattle.files.specs.Matrix.{Matrix, Sizes, sizes, sizesOutside, bit, p, total, most-rows}
 use Rattle.files.specs.Matrices.{tabled-bit}
 use Rattle.files.specs.Sizes.{sizes-refuse}
-use Rattle.files.specs.Live.{total-from, rowsFit}
+use Rattle.files.specs.Live.{total-from, total-eq, rowsFit}
 use Rattle.files.specs.Files.{fileLength, sizesOf, headerOf, bodyOf, matrixOf, readOf, unpacked, Whole}
 
 -- ---- the header: how far it came
@@ -132,9 +130,7 @@ unpacked-bit bytes s = tabled-bit (s .rows) (s .columns) (λ v. bitOf bytes (v *
 pub total-is : (M : Matrix) (f : ℕ → ℕ → ℕ) → ((v c : ℕ) → v < M .rows → c < M .columns → bit M v c ≡ f v c) →
     total M ≡ total-from f (M .rows) 0 (M .columns)
 unfolding total total-from p
-total-is M f e =
-    sum-eq (M .rows) (λ v. number (bit M v) 0 (M .columns)) (λ v. number (f v) 0 (M .columns))
-    (λ v l. number-shift (bit M v) (f v) 0 0 (M .columns) (λ i k. e v (0 + i) l (omega arith)))
+total-is M f e = total-eq (bit M) f (M .rows) (M .columns) e (M .columns) (omega arith)
 
 pub not-above : (t x : ℕ) → ltb x t ≡ not (leb t x)
 not-above t x =

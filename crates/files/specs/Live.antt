@@ -15,7 +15,7 @@ use lib.Bits.{bitAnd}
 use lib.ListN.{getD}
 use Rattle.laws.specs.Tests.{lt-or-ge}
 use Rattle.laws.specs.Sums.{sumTo, sum-eq, sum-le, sum-same, sum-plus, sum-times}
-use Rattle.laws.specs.Digits.{number, digit}
+use Rattle.laws.specs.Digits.{number, number-shift, digit}
 use Rattle.laws.specs.Words.{bitAt, bitAt-read}
 use Rattle.fields.specs.Fields.{packedBit}
 use Rattle.files.specs.Matrix.{ones-in}
@@ -136,3 +136,15 @@ unfolding strided ones-in packedBit digit bitAt
 strided-ones bytes per stride m c =
     sum-eq m (strided bytes (c / per) stride (per - 1 - c % per)) (λ v. packedBit per bytes (v * stride) c)
     (λ v l. ap (λ (i : ℕ). bitAt (getD bytes i 0) (per - 1 - c % per)) (add-comm (c / per) (v * stride)))
+
+-- ---- what depends on the bits of the m rows and n columns alone
+module _ (f g : ℕ → ℕ → ℕ) (m n : ℕ) (same : (v c : ℕ) → v < m → c < n → f v c ≡ g v c) where
+  pub ones-eq : (r c : ℕ) → r ≤ m → c < n → ones-in f r c ≡ ones-in g r c
+  unfolding ones-in
+  ones-eq r c a h = sum-eq r (λ v. f v c) (λ v. g v c) (λ v l. same v c (omega arith) h)
+
+  pub total-eq : (c : ℕ) → c ≤ n → total-from f m 0 c ≡ total-from g m 0 c
+  unfolding total-from
+  total-eq c h =
+      sum-eq m (λ v. number (f v) 0 c) (λ v. number (g v) 0 c)
+      (λ v l. number-shift (f v) (g v) 0 0 c (λ i b. same v (0 + i) l (omega arith)))

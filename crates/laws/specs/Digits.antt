@@ -1,7 +1,7 @@
 -- A number by its binary digits, the first digit the highest: how 01 reads a row, a byte and a string of bits. Assumes nothing.
 use Prim.Native.Nat.{ℕ, zero, suc, _+_, _-_, _*_, _/_, _%_, _^_, _≤_, _<_}
 use mathlib.Core.Path.{_≡_, refl, ap, sym, _∙_}
-use mathlib.Core.Logic.{⊎-elim}
+use mathlib.Core.Logic.{_≢_, ⊎-elim}
 use native.Mathlib.Nat.{add-zero, eq-or-lt-of-le, mod-eq-of-lt, mul-le-mul-right, pow-succ'}
 use native.Mathlib.Numerals.{add-one}
 use native.Mathlib.Omega.{arith}
@@ -161,3 +161,29 @@ unfolding digit
 digit-behind n a c i h l =
     let e : n - 1 - c ≡ suc (i - suc c) + (n - 1 - i) = omega arith in
     rw e (shifted a (n - 1 - i) (i - suc c))
+
+-- ---- one more in a digit
+pub number-add : (f g : ℕ → ℕ) (c k t b : ℕ) → t < k → g (c + t) ≡ f (c + t) + b → ((i : ℕ) → i < k → i ≢ t → f (c + i) ≡ g (c + i)) →
+    number g c k ≡ number f c k + b * 2 ^ (k - 1 - t)
+unfolding number
+number-add f g c zero t b h e s = absurd (omega arith)
+number-add f g c (suc k) zero b h e s =
+    let z : suc k - 1 - 0 ≡ k = omega arith in
+    let e′ : g c ≡ f c + b = rw (add-zero c) at e in
+    rw (z, e′)
+    (omega (
+      arith,
+      number-shift f g (suc c) (suc c) k
+          (λ i l. ap f (omega arith) ∙ (s (suc i) (omega arith) (λ q. omega arith) ∙ ap g (omega arith))),
+    ))
+number-add f g c (suc k) (suc t) b h e s =
+    let z : suc k - 1 - suc t ≡ k - 1 - t = omega arith in
+    let on : suc c + t ≡ c + suc t = omega arith in
+    let e′ : g (suc c + t) ≡ f (suc c + t) + b = rw on e in
+    let first : f c ≡ g c = ap f (omega arith) ∙ (s 0 (omega arith) (λ q. omega arith) ∙ ap g (omega arith)) in
+    rw (z, ← first)
+    (omega (
+      arith,
+      number-add f g (suc c) k t b (omega arith) e′
+          (λ i l n. ap f (omega arith) ∙ (s (suc i) (omega arith) (λ q. n (omega arith)) ∙ ap g (omega arith))),
+    ))

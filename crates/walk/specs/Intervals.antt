@@ -1,6 +1,6 @@
 -- Which strings hit which row. Where the walk has not hit before column c, the number of the first c bits is T of the first c columns, plus
--- d. So the 2^n strings, in the order of their numbers, are dealt out column by column: each set row of column c, from the top, has the
--- next 2^(n-1-c) of them, and those from T on miss. Assumes nothing.
+-- d. So a row that has a 1 in column c is hit there on 2^(n-1-c) numbers, one after another; those of rows further up come before, those of
+-- later columns behind; and every number from T on misses. Assumes nothing.
 use Prim.Native.Nat.{ℕ, zero, suc, _+_, _-_, _*_, _^_, _≤_, _<_}
 use mathlib.Core.Path.{_≡_, refl, sym, ap, _∙_, subst}
 use mathlib.Core.Bool.{true}
@@ -10,8 +10,9 @@ use native.Mathlib.Nat.{add-zero, zero-add, mul-le-mul-right, pow-succ'}
 use native.Mathlib.Numerals.{add-one}
 use native.Mathlib.Omega.{arith}
 use borrow.Author.Tests.{eq-eqb, eqb-true}
-use lib.ListN.{length, getD}
+use lib.ListN.{length, getD, take, drop, drop-of-length-le}
 use lib.Pow.{pow-add}
+use lib.Seq.{drop-cons}
 use Rattle.laws.specs.Tests.{never}
 use Rattle.laws.specs.Sums.{sumTo, sum-plus, sum-same, sum-times, sum-front-le}
 use Rattle.laws.specs.Digits.{number, number-more}
@@ -25,9 +26,8 @@ use Rattle.fields.specs.Fields.{bitOf}
 use Rattle.fields.specs.Strings.{stringsOf}
 use Rattle.walk.specs.Walk.{Drawn, hit, miss, Place, found, left, scan, then, walk, drawn, used, hits}
 use Rattle.walk.specs.Walk.{sample, missed, answerOf, Spending, spendingOf, walkOf, isMiss}
-use Rattle.walk.specs.Steps.{Inside, walk-inside}
 use Rattle.walk.specs.Strings.{Bits}
-use Rattle.walk.specs.Numbers.{stringNumber, Among, string-none, string-more, front-iff}
+use Rattle.walk.specs.Numbers.{stringNumber, readNumber, Among, string-none, string-more, front-iff, take-bits, take-number}
 use Rattle.walk.specs.Ranks.{Ranked, scan-ranked, scan-passes, scan-finds}
 use Rattle.walk.specs.Packed.{read-bits}
 use Rattle.walk.specs.Used.{told-hit}
@@ -48,6 +48,12 @@ leading bit m v c = 2 * total-to bit m c + above bit m v c
 -- the first of their numbers, in n bits
 unfoldable pub firstNumber : (ℕ → ℕ → ℕ) → ℕ → ℕ → ℕ → ℕ → ℕ
 firstNumber bit m n v c = leading bit m v c * 2 ^ (n - 1 - c)
+
+-- the number of a string is one of those on which row v is hit, in one of its set columns
+abbrev pub Hitting : Matrix → ℕ → List ℕ → Type 0
+Hitting M v s =
+    (c : ℕ) × (c < M .columns) × (bit M v c ≡ 1) ×
+    Among (firstNumber (bit M) (M .rows) (M .columns) v c) (2 ^ (M .columns - 1 - c)) (stringNumber (M .columns) s)
 
 -- ---- a hit of row v, as a test says it
 pub hits-is : (v c : ℕ) (r : Drawn) → r ≡ hit v c → hits v r ≡ true
@@ -77,6 +83,11 @@ ones-set : (bit : ℕ → ℕ → ℕ) (v c : ℕ) → bit v c ≡ 1 → 0 < one
 unfolding ones-in sumTo
 ones-set bit v c e = omega arith
 
+-- the ones up to a set row are more than those up to a row below it
+ones-more : (bit : ℕ → ℕ → ℕ) (u v c : ℕ) → u < v → bit v c ≡ 1 → ones-in bit (suc u) c < ones-in bit (suc v) c
+unfolding ones-in sumTo
+ones-more bit u v c h e = omega (arith, sum-front-le (suc u) v (λ v. bit v c) h)
+
 -- ---- leading bits are T of one column more, less the ones from their row down
 leading-is : (bit : ℕ → ℕ → ℕ) (m v c : ℕ) → v < m → leading bit m v c + ones-in bit (suc v) c ≡ total-to bit m (suc c)
 unfolding leading
@@ -102,6 +113,14 @@ module _ (bit : ℕ → ℕ → ℕ) (m n v c : ℕ) (h : v < m) (l : c < n) (o 
   ends-below =
       let e : suc c + (n - 1 - c) ≡ n = omega arith in
       omega (arith, ends, rw e at (total-grows bit m (suc c) (n - 1 - c)))
+
+  -- before that of any row below v in this column
+  pub ends-above : (u : ℕ) → u < v → firstNumber bit m n v c + 2 ^ (n - 1 - c) ≤ firstNumber bit m n u c
+  unfolding firstNumber
+  ends-above u k =
+      let up : suc (leading bit m v c) ≤ leading bit m u c =
+      omega (arith, leading-is bit m v c h, leading-is bit m u c (omega arith), ones-more bit u v c k o) in
+      omega (arith, mul-le-mul-right {m = suc (leading bit m v c)} {n = leading bit m u c} (2 ^ (n - 1 - c)) up)
 
   later : (u i : ℕ) → c < i → i < n → total-to bit m (suc c) * 2 ^ (n - 1 - c) ≤ firstNumber bit m n u i
   unfolding firstNumber leading
@@ -152,44 +171,6 @@ module _ (bit : ℕ → ℕ → ℕ) (m : ℕ) (s : List ℕ) where
       (λ x q. subst (λ (k : ℕ). Lands k (walk bit m (suc c) x bs)) e
       (lands bs (suc c) x (λ v i l a k. ok v i l (omega arith) (omega arith)) (rest-next c b bs r) q))
 
-  -- ---- and back: the first bits of a string that hits later are T or more of the columns passed
-  not-yet : (j c : ℕ) → ((i : ℕ) → i < c + j → getD s i 0 ≤ 1) → total-to bit m (c + j) ≤ stringNumber (c + j) s →
-      total-to bit m c ≤ stringNumber c s
-  not-yet zero c ok h = rw (add-zero c) at h
-  not-yet (suc j) c ok h =
-      let e : c + suc j ≡ suc (c + j) = omega arith in
-      let h′ : total-to bit m (suc (c + j)) ≤ stringNumber (suc (c + j)) s = rw e at h in
-      not-yet j c (λ i l. ok i (omega arith))
-      (omega (arith, string-more (c + j) s, total-more bit m (c + j), ok (c + j) (omega arith)))
-
-  not-before : (n v c : ℕ) → v < m → getD s c 0 ≤ 1 → Lands n (hit v c) → total-to bit m c ≤ stringNumber c s
-  not-before n v c h b l = omega (arith, string-more c s, total-more bit m c, ones-grow bit (suc v) m c h)
-
-  -- the walk from column c on hits row v in column t = c + j
-  reach : (j c d t v n : ℕ) (bs : List ℕ) → t ≡ c + j → j < length bs →
-      ((v i : ℕ) → v < m → c ≤ i → i < c + length bs → bit v i ≤ 1) → ((i : ℕ) → i ≤ t → getD s i 0 ≤ 1) → Rest c bs →
-      stringNumber c s ≡ total-to bit m c + d → v < m → bit v t ≡ 1 → Lands n (hit v t) → walk bit m c d bs ≡ hit v t
-  unfolding walk then ones-in
-  reach j c d t v n [] e l ok bits r h a o k = absurd (omega arith)
-  reach zero c d t v n (b ∷ bs) e l ok bits r h a o k =
-      let q : t ≡ c = omega arith in
-      let k′ : stringNumber (suc c) s + ones-in bit (suc v) c ≡ total-to bit m (suc c) = rw q at k in
-      let o′ : bit v c ≡ 1 = rw q at o in
-      rw (
-        q,
-        scan-finds (λ v. bit v c) m v (2 * d + b) (λ v l. ok v c l (omega arith) (omega arith)) a o′
-            (omega (arith, rest-first c b bs r, string-more c s, total-more bit m c)),
-      )
-  reach (suc j) c d t v n (b ∷ bs) e l ok bits r h a o k =
-      let q : t ≡ suc c + j = omega arith in
-      let y : total-to bit m (suc c) ≤ stringNumber (suc c) s =
-      not-yet j (suc c) (λ i l. bits i (omega arith)) (rw q at (not-before n v t a (bits t (omega arith)) k)) in
-      let x : ℕ = stringNumber (suc c) s - total-to bit m (suc c) in
-      rw (scan-passes (λ v. bit v c) m (2 * d + b) x (λ v l. ok v c l (omega arith) (omega arith))
-      (omega (arith, rest-first c b bs r, string-more c s, total-more bit m c)))
-      (reach j (suc c) x t v n bs q (omega arith) (λ v i l a k. ok v i l (omega arith) (omega arith)) bits (rest-next c b bs r)
-      (omega arith) a o k)
-
 -- ---- every m and n, whatever the rows sum to
 module _ (bit : ℕ → ℕ → ℕ) (m n : ℕ) (ok : (v c : ℕ) → v < m → c < n → bit v c ≤ 1) (s : List ℕ) (b : Bits n s) where
   whole : Rest bit m s 0 s
@@ -206,13 +187,44 @@ module _ (bit : ℕ → ℕ → ℕ) (m n : ℕ) (ok : (v c : ℕ) → v < m →
       let e : 0 + length s ≡ n = omega (arith, b .long) in
       rw e at (lands bit m s s 0 0 fit whole begun)
 
+  -- where the first c bits are T of the first c columns or more, the walk has not hit there, and goes on with what they are above T as d
+  pub goes-on : (c : ℕ) → c ≤ n → total-to bit m c ≤ stringNumber c s →
+      walk bit m 0 0 s ≡ walk bit m c (stringNumber c s - total-to bit m c) (drop c s)
+  unfolding walk then ones-in
+  goes-on zero h l =
+      let z : stringNumber 0 s - total-to bit m 0 ≡ 0 = omega (arith, string-none s) in
+      rw z
+  goes-on (suc c) h l =
+      let before : total-to bit m c ≤ stringNumber c s =
+      omega (arith, string-more c s, total-more bit m c, b .each c (omega arith)) in
+      let d : ℕ = stringNumber c s - total-to bit m c in
+      let e : ℕ = stringNumber (suc c) s - total-to bit m (suc c) in
+      goes-on c (omega arith) before ∙
+      rw (
+        drop-cons s c 0 (omega (arith, b .long)),
+        scan-passes (λ v. bit v c) m (2 * d + getD s c 0) e (λ v k. ok v c k (omega arith))
+            (omega (arith, before, string-more c s, total-more bit m c)),
+      )
+
+  meets : (v c : ℕ) → v < m → c < n → bit v c ≡ 1 → stringNumber (suc c) s ≡ leading bit m v c → walk bit m 0 0 s ≡ hit v c
+  unfolding walk then ones-in
+  meets v c h l o e =
+      let is = leading-is bit m v c h in
+      let before : total-to bit m c ≤ stringNumber c s =
+      omega (arith, is, string-more c s, total-more bit m c, ones-grow bit (suc v) m c h, b .each c l) in
+      let d : ℕ = stringNumber c s - total-to bit m c in
+      goes-on c (omega arith) before ∙
+      rw (
+        drop-cons s c 0 (omega (arith, b .long)),
+        scan-finds (λ v. bit v c) m v (2 * d + getD s c 0) (λ v k. ok v c k l) h o
+            (omega (arith, before, is, string-more c s, total-more bit m c)),
+      )
+
   -- a set row is hit in a column exactly by the strings with its leading bits
   pub leads-iff : (v c : ℕ) → v < m → c < n → bit v c ≡ 1 → (walk bit m 0 0 s ≡ hit v c) ↔ (stringNumber (suc c) s ≡ leading bit m v c)
   leads-iff v c h l o = (
     (λ e. omega (arith, leading-is bit m v c h, subst (Lands bit m s n) e walk-lands)),
-    (λ e.
-        reach bit m s c 0 0 c v n s (omega arith) (omega (arith, b .long)) fit (λ i q. b .each i (omega arith)) whole begun h o
-        (omega (arith, leading-is bit m v c h))),
+    meets v c h l o,
   )
 
   -- that is, on one interval of numbers
@@ -225,21 +237,24 @@ module _ (bit : ℕ → ℕ → ℕ) (m n : ℕ) (ok : (v c : ℕ) → v < m →
       let g = leads-iff v c h l o in
       ((λ q. f .0 (g .0 q)), (λ q. g .1 (f .1 q)))
 
-  -- a hit is below T
-  hit-below : (v c : ℕ) → v < m → c < n → 0 < bit v c → walk bit m 0 0 s ≡ hit v c → stringNumber n s < total-to bit m n
-  hit-below v c h l o e =
-      let one : bit v c ≡ 1 = omega (arith, ok v c h l) in
-      omega (arith, interval-iff v c h l one .0 e .below, ends-below bit m n v c h l one)
-
-  above-misses : (r : Drawn) → walk bit m 0 0 s ≡ r → total-to bit m n ≤ stringNumber n s → r ≡ miss
-  above-misses (hit v c) e q =
-      let i = subst (Inside bit m 0 (0 + length s)) e (walk-inside bit m 0 0 s) in
-      absurd (omega (arith, hit-below v c (i .0) (omega (arith, b .long, i .2)) (i .3) e))
-  above-misses miss e q = refl
-
   -- and the strings from T on miss, and no others
   pub beyond-iff : (walk bit m 0 0 s ≡ miss) ↔ (total-to bit m n ≤ stringNumber n s)
-  beyond-iff = ((λ e. subst (Lands bit m s n) e walk-lands), (λ q. above-misses (walk bit m 0 0 s) refl q))
+  unfolding walk
+  beyond-iff = (
+    (λ e. subst (Lands bit m s n) e walk-lands),
+    (λ q. goes-on n (omega arith) q ∙ rw (drop-of-length-le s {i = n} (omega (arith, b .long)))),
+  )
+
+-- so where the walk on the first c bits has not hit, the walk on all of them goes on in column c with a d that, with T of the first c
+-- columns, is the number of those bits
+pub passed : (bit : ℕ → ℕ → ℕ) (m n : ℕ) → ((v c : ℕ) → v < m → c < n → bit v c ≤ 1) → (s : List ℕ) → Bits n s → (c : ℕ) → c ≤ n →
+    walk bit m 0 0 (take c s) ≡ miss →
+    (d : ℕ) × (walk bit m 0 0 s ≡ walk bit m c d (drop c s)) × (stringNumber c s ≡ total-to bit m c + d)
+passed bit m n ok s b c h e =
+    let front : total-to bit m c ≤ stringNumber c (take c s) =
+    beyond-iff bit m c (λ v i k l. ok v i k (omega arith)) (take c s) (take-bits c n s h b) .0 e in
+    let l : total-to bit m c ≤ stringNumber c s = omega (arith, take-number c n s h b) in
+    (stringNumber c s - total-to bit m c, goes-on bit m n ok s b c h l, omega arith)
 
 -- ---- matrices
 module _ (M : Matrix) (a : Accepted M) (s : List ℕ) (b : Bits (M .columns) s) where
@@ -255,13 +270,7 @@ module _ (M : Matrix) (a : Accepted M) (s : List ℕ) (b : Bits (M .columns) s) 
   unfolding drawn total p total-from
   miss-iff = beyond-iff (bit M) (M .rows) (M .columns) (accepted-bits M a) s b
 
-  -- so of every row: the strings that hit it are those of its set columns
-  abbrev pub Hitting : ℕ → Type 0
-  Hitting v =
-      (c : ℕ) × (c < M .columns) × (bit M v c ≡ 1) ×
-      Among (firstNumber (bit M) (M .rows) (M .columns) v c) (2 ^ (M .columns - 1 - c)) (stringNumber (M .columns) s)
-
-  hitting : (v : ℕ) → v < M .rows → (r : Drawn) → drawn M s ≡ r → hits v r ≡ true → Hitting v
+  hitting : (v : ℕ) → v < M .rows → (r : Drawn) → drawn M s ≡ r → hits v r ≡ true → Hitting M v s
   unfolding hits
   hitting v h (hit u c) e t =
       let e′ : drawn M s ≡ hit v c = e ∙ ap (λ (x : ℕ). hit x c) (eqb-true u v t) in
@@ -270,7 +279,8 @@ module _ (M : Matrix) (a : Accepted M) (s : List ℕ) (b : Bits (M .columns) s) 
       (c, l, o, hit-iff v c h l o .0 e′)
   hitting v h miss e t = never t
 
-  pub row-iff : (v : ℕ) → v < M .rows → (hits v (drawn M s) ≡ true) ↔ Hitting v
+  -- so of every row: the strings that hit it are those of its set columns
+  pub row-iff : (v : ℕ) → v < M .rows → (hits v (drawn M s) ≡ true) ↔ Hitting M v s
   row-iff v h = (
     (λ e. hitting v h (drawn M s) refl e),
     (λ q. hits-is v (q .0) (drawn M s) (hit-iff v (q .0) h (q .1) (q .2) .1 (q .3))),
@@ -279,17 +289,13 @@ module _ (M : Matrix) (a : Accepted M) (s : List ℕ) (b : Bits (M .columns) s) 
 -- ---- matrix files and packed strings
 module _ (file : List ℕ) (M : Matrix) (e : matrixOf file ≡ gives M) (string : List ℕ)
     (sound : stringsOf 1 (M .columns) string ≡ gives tt) where
-  -- the number of the string's bits
-  abbrev pub readNumber : ℕ
-  readNumber = stringNumber (M .columns) (upto (M .columns) (bitOf string 0))
-
   -- what is told of the walk is what is drawn
   told-is : (w : Spending) → walkOf file string ≡ gives w → spendingOf (M .columns) (drawn M (upto (M .columns) (bitOf string 0))) ≡ w
   told-is w g = gives-inj (sym (walk-is file M e string sound) ∙ g)
 
   pub file-hit-iff : (v c : ℕ) → v < M .rows → c < M .columns → bit M v c ≡ 1 →
       (walkOf file string ≡ gives (record { answer = sample v; used = c + 1 })) ↔
-      Among (firstNumber (bit M) (M .rows) (M .columns) v c) (2 ^ (M .columns - 1 - c)) readNumber
+      Among (firstNumber (bit M) (M .rows) (M .columns) v c) (2 ^ (M .columns - 1 - c)) (readNumber (M .columns) string)
   unfolding used
   file-hit-iff v c h l o =
       let n : ℕ = M .columns in
@@ -300,7 +306,8 @@ module _ (file : List ℕ) (M : Matrix) (e : matrixOf file ≡ gives M) (string 
         (λ a. walk-is file M e string sound ∙ ap (λ (d : Drawn). gives (spendingOf n d)) (i .1 a)),
       )
 
-  pub file-miss-iff : (walkOf file string ≡ gives (record { answer = missed; used = M .columns })) ↔ (total M ≤ readNumber)
+  pub file-miss-iff :
+      (walkOf file string ≡ gives (record { answer = missed; used = M .columns })) ↔ (total M ≤ readNumber (M .columns) string)
   unfolding used
   file-miss-iff =
       let n : ℕ = M .columns in

@@ -6,12 +6,13 @@ use mathlib.Core.Logic.{_↔_}
 use native.Mathlib.Nat.{zero-add, div-eq-of-lt-le}
 use native.Mathlib.Numerals.{add-one}
 use native.Mathlib.Omega.{arith}
-use lib.ListN.{getD}
+use lib.ListN.{getD, take}
 use lib.Pow.{high}
-use lib.Seq.{ext-getD}
+use lib.Seq.{ext-getD, getD-take, length-take-le}
 use Rattle.laws.specs.Digits.{number, digit, digit-le, number-more, number-split, number-lt, number-shift, number-digit}
 use Rattle.laws.specs.Digits.{digit-number}
 use Rattle.laws.specs.Lists.{upto, length-upto, getD-upto}
+use Rattle.fields.specs.Fields.{bitOf}
 use Rattle.walk.specs.Strings.{Bits}
 
 -- the first k bits of a string, as a number
@@ -21,6 +22,10 @@ stringNumber k s = number (λ i. getD s i 0) 0 k
 -- the string of n bits whose number is x
 unfoldable pub numberString : ℕ → ℕ → List ℕ
 numberString n x = upto n (digit n x)
+
+-- the number of the first n bits of packed bytes
+abbrev pub readNumber : ℕ → List ℕ → ℕ
+readNumber n bytes = stringNumber n (upto n (bitOf bytes 0))
 
 -- x is one of the k numbers from a on
 pub record Among (a k x : ℕ) : Type 0 where
@@ -64,6 +69,19 @@ string-none s = omega arith
 pub string-more : (k : ℕ) (s : List ℕ) → stringNumber (suc k) s ≡ 2 * stringNumber k s + getD s k 0
 unfolding stringNumber
 string-more k s = rw (add-one k, zero-add k) at (number-more (λ i. getD s i 0) 0 k)
+
+-- ---- the first k bits, by themselves
+module _ (k n : ℕ) (s : List ℕ) (h : k ≤ n) (b : Bits n s) where
+  pub take-bits : Bits k (take k s)
+  take-bits =
+      record {
+        long = length-take-le k s (omega (arith, b .long));
+        each = λ i l. rw (getD-take k s i 0 l) (b .each i (omega arith));
+      }
+
+  pub take-number : stringNumber k (take k s) ≡ stringNumber k s
+  unfolding stringNumber
+  take-number = number-shift (λ i. getD (take k s) i 0) (λ i. getD s i 0) 0 0 k (λ i l. getD-take k s (0 + i) 0 (omega arith))
 
 -- ---- the first k of k + j bits are x exactly where the number is one of the 2^j from x * 2^j on
 module _ (k j : ℕ) (s : List ℕ) (b : Bits (k + j) s) where

@@ -8,7 +8,7 @@ use native.Mathlib.Omega.{arith}
 use Rattle.laws.specs.Sums.{sumTo, sum-front-le}
 use Rattle.walk.specs.Walk.{Place, found, left, at, scan}
 
--- ---- from what a column does to the distance
+-- ---- the distance, by what a column does
 -- of s ones: the distance d and the ones of the rows from row v down are s; or the ones and what is left are d
 abbrev pub Ranked : (ℕ → ℕ) → ℕ → ℕ → Place → Type 0
 Ranked column s d (found v) = d + sumTo (suc v) column ≡ s
@@ -34,7 +34,7 @@ scan-ranked column (suc r) d ok =
     at-ranked column (column r) r d (λ e. scan column r e) refl (ok r (omega arith))
     (λ e. scan-ranked column r e (λ v l. ok v (omega arith)))
 
--- ---- and to it
+-- ---- what a column does, by the distance
 at-skip : (b row d e : ℕ) (go : ℕ → Place) → b ≤ 1 → d ≡ b + e → at b row d go ≡ go e
 unfolding at
 at-skip zero row d e go l q = ap go (omega arith)

@@ -1,11 +1,11 @@
 -- The bits of a string from its last 1 back to its first, added one by one to packed bits that are all 0. Assumes nothing.
-use Prim.Native.Nat.{ℕ, zero, suc, _+_, _-_, _*_, _/_, _%_, _^_, _≤_, _<_}
+use Prim.Native.Nat.{ℕ, suc, _+_, _-_, _*_, _/_, _%_, _^_, _≤_, _<_}
 use mathlib.Core.Path.{_≡_, refl, sym, ap, _∙_}
 use mathlib.Core.Bool.{cond}
 use mathlib.Core.List.{List}
 use mathlib.Core.Logic.{_≢_, ⊎-elim}
 use native.Mathlib.Decide.{ℕ-discrete}
-use native.Mathlib.Nat.{add-zero, eq-or-lt-of-le}
+use native.Mathlib.Nat.{eq-or-lt-of-le}
 use native.Mathlib.Numerals.{add-one}
 use native.Mathlib.Omega.{arith}
 use borrow.Author.Tests.{lt-leb, le-leb}
@@ -15,38 +15,12 @@ use lib.Pow.{shl-shr, shr-shr}
 use lib.Seq.{ext-getD, getD-set-same, getD-set-other, set-append-left}
 use Rattle.laws.specs.Tests.{lt-or-ge, reached}
 use Rattle.laws.specs.Sums.{sumTo, sum-more}
-use Rattle.laws.specs.Digits.{number, digit, digit-le, digit-behind, number-shift, number-zero, number-lt}
+use Rattle.laws.specs.Digits.{number, digit, digit-le, digit-behind, number-add, number-shift, number-zero, number-lt}
 use Rattle.laws.specs.Lists.{upto, upto-eq, getD-upto}
 use Rattle.laws.specs.Lay.{lay, layAt, lay-is, lay-again, at-front}
-use Rattle.fields.specs.Fields.{width, padded, packed, padded-below, padded-above, padded-le, packed-eq, length-packed}
+use Rattle.fields.specs.Fields.{width, padded, packed, padded-below, padded-above, padded-both, padded-le, packed-eq, length-packed}
 use Rattle.files.specs.Matrix.{ones-in}
 use Rattle.walk.specs.Intervals.{total-to, total-more, above, leading, firstNumber}
-
--- ---- one more bit in a number
-number-add : (f g : ℕ → ℕ) (c k t b : ℕ) → t < k → g (c + t) ≡ f (c + t) + b → ((i : ℕ) → i < k → i ≢ t → f (c + i) ≡ g (c + i)) →
-    number g c k ≡ number f c k + b * 2 ^ (k - 1 - t)
-unfolding number
-number-add f g c zero t b h e s = absurd (omega arith)
-number-add f g c (suc k) zero b h e s =
-    let z : suc k - 1 - 0 ≡ k = omega arith in
-    let e′ : g c ≡ f c + b = rw (add-zero c) at e in
-    rw (z, e′)
-    (omega (
-      arith,
-      number-shift f g (suc c) (suc c) k
-          (λ i l. ap f (omega arith) ∙ (s (suc i) (omega arith) (λ q. omega arith) ∙ ap g (omega arith))),
-    ))
-number-add f g c (suc k) (suc t) b h e s =
-    let z : suc k - 1 - suc t ≡ k - 1 - t = omega arith in
-    let on : suc c + t ≡ c + suc t = omega arith in
-    let e′ : g (suc c + t) ≡ f (suc c + t) + b = rw on e in
-    let first : f c ≡ g c = ap f (omega arith) ∙ (s 0 (omega arith) (λ q. omega arith) ∙ ap g (omega arith)) in
-    rw (z, ← first)
-    (omega (
-      arith,
-      number-add f g (suc c) k t b (omega arith) e′
-          (λ i l n. ap f (omega arith) ∙ (s (suc i) (omega arith) (λ q. n (omega arith)) ∙ ap g (omega arith))),
-    ))
 
 -- ---- the bits from a place on
 -- those of f from place i on, and 0 before
@@ -112,7 +86,8 @@ module _ (n i : ℕ) (f : ℕ → ℕ) (ok : (j : ℕ) → j < n → f j ≤ 1) 
   byte-here : number after (8 * (i / 8)) 8 ≡ number before (8 * (i / 8)) 8 + f i * 2 ^ (7 - i % 8)
   byte-here =
       let at : 8 * (i / 8) + i % 8 ≡ i = omega arith in
-      number-add before after (8 * (i / 8)) 8 (i % 8) (f i) (omega arith) (rw at here) (λ t l ne. same (8 * (i / 8) + t) (λ e. ne (omega arith)))
+      number-add before after (8 * (i / 8)) 8 (i % 8) (f i) (omega arith) (rw at here)
+      (λ t l ne. same (8 * (i / 8) + t) (λ e. ne (omega arith)))
 
   byte-other : (q : ℕ) → q ≢ i / 8 → number before (8 * q) 8 ≡ number after (8 * q) 8
   byte-other q ne = number-shift before after (8 * q) (8 * q) 8 (λ t l. same (8 * q + t) (λ e. ne (omega arith)))
@@ -165,10 +140,7 @@ module _ (n i : ℕ) (f : ℕ → ℕ) (ok : (j : ℕ) → j < n → f j ≤ 1) 
 -- ---- bits that are all 0
 cleared-byte : (n q : ℕ) → number (padded n (λ i. 0)) (8 * q) 8 ≡ 0
 cleared-byte n q =
-    number-zero (padded n (λ i. 0)) (8 * q) 8
-    (λ t l.
-    ⊎-elim (λ (h : 8 * q + t < n). sym (padded-below n (λ i. 0) (8 * q + t) h)) (λ (h : n ≤ 8 * q + t). sym (padded-above n (λ i. 0) (8 * q + t) h))
-    (lt-or-ge (8 * q + t) n))
+    number-zero (padded n (λ i. 0)) (8 * q) 8 (λ t l. padded-both (λ (x : ℕ). x ≡ 0) n (λ i. 0) (8 * q + t) (λ h. refl) (λ h. refl))
 
 pub cleared : (n : ℕ) (buf now : List ℕ) → now ≡ layAt 0 (upto (width n) (λ q. 0)) buf → now ≡ lay (packed n (λ i. 0)) buf
 unfolding packed
@@ -179,7 +151,7 @@ cleared n buf now e =
 
 -- ---- back from column c
 -- with e in column i, whose bit and all after it are laid down: e and twice T of the columns before it are the first i + 1 bits of x
-pub record Laid (bit : ℕ → ℕ → ℕ) (m n x i e : ℕ) (buf now : List ℕ) : Type 0 where
+pub record LaidFrom (bit : ℕ → ℕ → ℕ) (m n x i e : ℕ) (buf now : List ℕ) : Type 0 where
   pub carry : 2 * total-to bit m i + e ≡ x / 2 ^ (n - 1 - i)
   pub is : now ≡ lay (packed n (fromOn i (digit n x))) buf
 
@@ -195,8 +167,8 @@ module _ (bit : ℕ → ℕ → ℕ) (m n : ℕ) where
     fits : getD now (i / 8) 0 + e % 2 * 2 ^ (7 - i % 8) < 2 ^ 8
     fits = rw (carried bit m n x i e carry) (bit-fits n i (digit n x) (λ j l. digit-le n x j) h buf now is)
 
-    laid : (now′ : List ℕ) → now′ ≡ set now (i / 8) (getD now (i / 8) 0 + e % 2 * 2 ^ (7 - i % 8)) → Laid bit m n x i e buf now′
-    laid now′ q =
+    laid-from : (now′ : List ℕ) → now′ ≡ set now (i / 8) (getD now (i / 8) 0 + e % 2 * 2 ^ (7 - i % 8)) → LaidFrom bit m n x i e buf now′
+    laid-from now′ q =
         record {
           carry = carry;
           is = q ∙ rw (carried bit m n x i e carry) (bit-added n i (digit n x) (λ j l. digit-le n x j) h buf now is);
@@ -228,12 +200,12 @@ module _ (bit : ℕ → ℕ → ℕ) (m n : ℕ) where
     first-fits = fits first c e h first-carry buf now none-after
 
     pub first-laid : (now′ : List ℕ) → now′ ≡ set now (c / 8) (getD now (c / 8) 0 + e % 2 * 2 ^ (7 - c % 8)) →
-        Laid bit m n first c e buf now′
-    first-laid = laid first c e h first-carry buf now none-after
+        LaidFrom bit m n first c e buf now′
+    first-laid = laid-from first c e h first-carry buf now none-after
 
   -- and in each column to the left e is half of what it was, and the ones of that column
   module _ (x i e w : ℕ) (z : 0 < i) (h : i < n) (o : w + ones-in bit 0 (i - 1) ≡ ones-in bit m (i - 1)) (buf now : List ℕ)
-      (d : Laid bit m n x i e buf now) where
+      (d : LaidFrom bit m n x i e buf now) where
     next-carry : 2 * total-to bit m (i - 1) + (e / 2 + w) ≡ x / 2 ^ (n - 1 - (i - 1))
     unfolding ones-in sumTo
     next-carry =
@@ -252,17 +224,17 @@ module _ (bit : ℕ → ℕ → ℕ) (m n : ℕ) where
 
     pub next-laid : (now′ : List ℕ) →
         now′ ≡ set now ((i - 1) / 8) (getD now ((i - 1) / 8) 0 + (e / 2 + w) % 2 * 2 ^ (7 - (i - 1) % 8)) →
-        Laid bit m n x (i - 1) (e / 2 + w) buf now′
-    next-laid = laid x (i - 1) (e / 2 + w) (omega arith) next-carry buf now next-is
+        LaidFrom bit m n x (i - 1) (e / 2 + w) buf now′
+    next-laid = laid-from x (i - 1) (e / 2 + w) (omega arith) next-carry buf now next-is
 
   -- what stands laid, laid again, stays; and what is laid over it later is laid on what was there before
-  pub laid-again : (x i e : ℕ) (buf now : List ℕ) → Laid bit m n x i e buf now → Laid bit m n x i e now now
+  pub laid-again : (x i e : ℕ) (buf now : List ℕ) → LaidFrom bit m n x i e buf now → LaidFrom bit m n x i e now now
   laid-again x i e buf now d =
       let g : List ℕ = packed n (fromOn i (digit n x)) in
       record { carry = d .carry; is = d .is ∙ (sym (lay-again g g buf refl) ∙ ap (lay g) (sym (d .is))) }
 
   -- at column 0 all are laid
-  pub laid-all : (x c f i e : ℕ) (buf first now : List ℕ) → i ≤ 0 → Laid bit m n x c f buf first → Laid bit m n x i e first now →
+  pub laid-all : (x c f i e : ℕ) (buf first now : List ℕ) → i ≤ 0 → LaidFrom bit m n x c f buf first → LaidFrom bit m n x i e first now →
       now ≡ lay (packed n (digit n x)) buf
   laid-all x c f i e buf first now h a d =
       let g : List ℕ = packed n (fromOn c (digit n x)) in

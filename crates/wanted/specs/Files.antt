@@ -23,11 +23,11 @@ use Rattle.walk.specs.Walk.{drawn, hits, isRow, sample, answerOf, used, spendin
 use Rattle.walk.specs.declared.Drawn.{Drawn}
 use Rattle.walk.specs.declared.Drawn.the-variants.{Hit as hit, Miss as miss}
 use Rattle.walk.specs.Strings.{Bits}
-use Rattle.walk.specs.Numbers.{stringNumber, numberString, number-bits, number-of-string}
+use Rattle.walk.specs.Numbers.{numberString, readNumber, number-bits, number-of-string}
 use Rattle.walk.specs.Packed.{packedString, packedString-sound, packedString-bits, read-bits}
 use Rattle.walk.specs.Theorems.{givesThat, walk-is}
 use Rattle.wanted.specs.Wanted.{numberFor, packedNumber, wantedOf, stringFound}
-use Rattle.wanted.specs.Theorems.{SmallestString, firstColumn, first-column, given-smallest, smallest-given, none-iff, never-hit}
+use Rattle.wanted.specs.Theorems.{SmallestString, firstColumn, first-column, number-smallest, smallest-number, none-iff, never-hit}
 
 -- ---- a hit of row v as the answer of a walk
 pub hits-answer : (v : ℕ) (d : Drawn) → hits v d ≡ true → answerOf d ≡ sample v
@@ -68,12 +68,12 @@ module _ (file : List ℕ) (M : Matrix) (e : matrixOf file ≡ gives M) (row roo
     (λ g.
         let a = answer-iff (some bytes) .0 g in
         let q = packed-some (M .columns) (numberFor M row) bytes (a .2) in
-        (a .0, a .1, (numberString (M .columns) (q .0), given-smallest M row (q .0) (q .1), q .2))),
+        (a .0, a .1, (numberString (M .columns) (q .0), number-smallest M row (q .0) (q .1), q .2))),
     (λ h.
         let s = h .2 .0 in
         let least = h .2 .1 in
         answer-iff (some bytes) .1
-        (h .0, h .1, rw (smallest-given M row s least, number-of-string (M .columns) s (least .bits)) (ap some (sym (h .2 .2))))),
+        (h .0, h .1, rw (smallest-number M row s least, number-of-string (M .columns) s (least .bits)) (ap some (sym (h .2 .2))))),
   )
 
   -- none exactly where the row is all zero
@@ -116,64 +116,63 @@ module _ (file : List ℕ) (M : Matrix) (e : matrixOf file ≡ gives M) (row roo
   -- ---- the bytes of a string that is given
   module _ (bytes : List ℕ) (g : wantedOf file row room ≡ gives (some bytes)) where
     -- they are those of the number
-    of : (row < M .rows) × ((x : ℕ) × (numberFor M row ≡ some x) × (bytes ≡ packedString (M .columns) (numberString (M .columns) x)))
-    of =
+    made-of : (row < M .rows) × ((x : ℕ) × (numberFor M row ≡ some x) × (bytes ≡ packedString (M .columns) (numberString (M .columns) x)))
+    made-of =
         let a = answer-iff (some bytes) .0 g in
         (a .0, packed-some (M .columns) (numberFor M row) bytes (a .2))
 
     abbrev string : List ℕ
-    string = numberString (M .columns) (of .1 .0)
+    string = numberString (M .columns) (made-of .1 .0)
 
     string-bits : Bits (M .columns) string
-    string-bits = number-bits (M .columns) (of .1 .0)
+    string-bits = number-bits (M .columns) (made-of .1 .0)
 
     -- as many as a row has
-    pub given-long : length bytes ≡ width (M .columns)
+    pub laid-long : length bytes ≡ width (M .columns)
     unfolding packedString
-    given-long = ap length (of .1 .2) ∙ length-packed (M .columns) (λ i. getD string i 0)
+    laid-long = ap length (made-of .1 .2) ∙ length-packed (M .columns) (λ i. getD string i 0)
 
     -- spare bits are 0: a string that every operation takes
-    pub given-sound : stringsOf 1 (M .columns) bytes ≡ gives tt
-    given-sound =
+    pub laid-sound : stringsOf 1 (M .columns) bytes ≡ gives tt
+    laid-sound =
         let a = read-accepted file M e in
-        ap (stringsOf 1 (M .columns)) (of .1 .2) ∙
+        ap (stringsOf 1 (M .columns)) (made-of .1 .2) ∙
         packedString-sound (M .columns) string string-bits (a .some-columns) (a .few-columns)
 
     -- their bits are the smallest string
-    given-bits : upto (M .columns) (bitOf bytes 0) ≡ string
-    given-bits =
-        ap (λ (l : List ℕ). upto (M .columns) (bitOf l 0)) (of .1 .2) ∙ packedString-bits (M .columns) string string-bits
+    laid-bits : upto (M .columns) (bitOf bytes 0) ≡ string
+    laid-bits =
+        ap (λ (l : List ℕ). upto (M .columns) (bitOf l 0)) (made-of .1 .2) ∙ packedString-bits (M .columns) string string-bits
 
-    pub given-packed : bytes ≡ packedString (M .columns) (upto (M .columns) (bitOf bytes 0))
-    given-packed = of .1 .2 ∙ ap (packedString (M .columns)) (sym given-bits)
+    pub laid-packed : bytes ≡ packedString (M .columns) (upto (M .columns) (bitOf bytes 0))
+    laid-packed = made-of .1 .2 ∙ ap (packedString (M .columns)) (sym laid-bits)
 
-    pub given-least : SmallestString M row (upto (M .columns) (bitOf bytes 0))
-    given-least = subst (SmallestString M row) (sym given-bits) (given-smallest M row (of .1 .0) (of .1 .1))
+    pub laid-least : SmallestString M row (upto (M .columns) (bitOf bytes 0))
+    laid-least = subst (SmallestString M row) (sym laid-bits) (number-smallest M row (made-of .1 .0) (made-of .1 .1))
 
     -- the walk on it hits the row
-    pub given-draws : answerOf (drawn M (upto (M .columns) (bitOf bytes 0))) ≡ sample row
-    given-draws = hits-answer row (drawn M (upto (M .columns) (bitOf bytes 0))) (given-least .hit)
+    pub laid-draws : answerOf (drawn M (upto (M .columns) (bitOf bytes 0))) ≡ sample row
+    laid-draws = hits-answer row (drawn M (upto (M .columns) (bitOf bytes 0))) (laid-least .hit)
 
     -- in the row's first set column, and the bits after that are 0
-    pub given-walks : (c : ℕ) × (firstColumn M row ≡ some c) ×
+    pub laid-walks : (c : ℕ) × (firstColumn M row ≡ some c) ×
         (walkOf file bytes ≡ gives (record { answer = sample row; used = c + 1 })) ×
         ((i : ℕ) → c < i → i < M .columns → bitOf bytes 0 i ≡ 0)
     unfolding used numberString
-    given-walks =
+    laid-walks =
         let n : ℕ = M .columns in
-        let x : ℕ = of .1 .0 in
-        let f = first-column M (read-accepted file M e) row (of .0) x (of .1 .1) in (
+        let x : ℕ = made-of .1 .0 in
+        let f = first-column M (read-accepted file M e) row (made-of .0) x (made-of .1 .1) in (
           f .0,
           f .1,
-          walk-is file M e bytes given-sound ∙ ap (λ (d : Drawn). gives (spendingOf n d)) (ap (drawn M) given-bits ∙ f .2),
+          walk-is file M e bytes laid-sound ∙ ap (λ (d : Drawn). gives (spendingOf n d)) (ap (drawn M) laid-bits ∙ f .2),
           (λ i a l.
               sym (getD-upto n (bitOf bytes 0) i 0 l) ∙
-              (ap (λ (s : List ℕ). getD s i 0) given-bits ∙ (getD-upto n (digit n x) i 0 l ∙ f .3 i a l))),
+              (ap (λ (s : List ℕ). getD s i 0) laid-bits ∙ (getD-upto n (digit n x) i 0 l ∙ f .3 i a l))),
         )
 
     -- and on no string with a smaller number: it draws another row or misses
-    pub given-first : (other : List ℕ) →
-        stringNumber (M .columns) (upto (M .columns) (bitOf other 0)) < stringNumber (M .columns) (upto (M .columns) (bitOf bytes 0)) →
+    pub laid-first : (other : List ℕ) → readNumber (M .columns) other < readNumber (M .columns) bytes →
         givesThat (isRow row) (walkOf file other) ≡ false
-    given-first other l =
-        not-walked other (given-least .least (upto (M .columns) (bitOf other 0)) (read-bits (M .columns) other) l)
+    laid-first other l =
+        not-walked other (laid-least .least (upto (M .columns) (bitOf other 0)) (read-bits (M .columns) other) l)

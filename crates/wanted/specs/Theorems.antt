@@ -39,9 +39,9 @@ firstOf bit m n v none = none
 firstOf bit m n v (some c) = some (firstNumber bit m n v c)
 
 -- a test that does not pass
-not-true : (b : Bool) → (b ≡ true → ⊥) → b ≡ false
-not-true true h = absurd (h refl)
-not-true false h = refl
+not-passed : (b : Bool) → (b ≡ true → ⊥) → b ≡ false
+not-passed true h = absurd (h refl)
+not-passed false h = refl
 
 -- ---- by the number: what the definition says
 module _ (M : Matrix) (v : ℕ) where
@@ -53,8 +53,8 @@ module _ (M : Matrix) (v : ℕ) where
   number-iff o = smallest-iff (2 ^ M .columns) hitBy o
 
   -- the string of the number that is given is the smallest
-  pub given-smallest : (x : ℕ) → numberFor M v ≡ some x → SmallestString M v (numberString (M .columns) x)
-  given-smallest x e =
+  pub number-smallest : (x : ℕ) → numberFor M v ≡ some x → SmallestString M v (numberString (M .columns) x)
+  number-smallest x e =
       let n : ℕ = M .columns in
       let q = number-iff (some x) .0 e in
       record {
@@ -66,8 +66,8 @@ module _ (M : Matrix) (v : ℕ) where
       }
 
   -- and where the smallest string is, its number is given
-  pub smallest-given : (s : List ℕ) → SmallestString M v s → numberFor M v ≡ some (stringNumber (M .columns) s)
-  smallest-given s h =
+  pub smallest-number : (s : List ℕ) → SmallestString M v s → numberFor M v ≡ some (stringNumber (M .columns) s)
+  smallest-number s h =
       let n : ℕ = M .columns in
       number-iff (some (stringNumber n s)) .1 (
         string-lt n s (h .bits),
@@ -106,8 +106,8 @@ module _ (M : Matrix) (a : Accepted M) (v : ℕ) (h : v < M .rows) where
         (record { from = omega (arith, e); below = omega (arith, e, pow-pos (M .columns - 1 - c)) })
 
     -- whatever hits the row has no smaller number
-    hits-from : (s : List ℕ) (b : Bits (M .columns) s) → Hitting M a s b v → first ≤ stringNumber (M .columns) s
-    hits-from s b q =
+    hits-from : (s : List ℕ) → Hitting M v s → first ≤ stringNumber (M .columns) s
+    hits-from s q =
         ⊎-elim
         (λ (l : q .0 < c). absurd (omega (arith, q .2, clear (q .0) (q .1) (f .2 (q .0) l))))
         (λ (l : c ≤ q .0).
@@ -124,12 +124,12 @@ module _ (M : Matrix) (a : Accepted M) (v : ℕ) (h : v < M .rows) where
         number-iff M v (some first) .1 (
           first-lt,
           hits-is v c (drawn M (numberString (M .columns) first)) first-hits,
-          (λ y l. not-true (hits v (drawn M (numberString (M .columns) y)))
+          (λ y l. not-passed (hits v (drawn M (numberString (M .columns) y)))
               (λ e.
               let b = number-bits (M .columns) y in
               omega (
                 arith,
-                hits-from (numberString (M .columns) y) b (row-iff M a (numberString (M .columns) y) b v h .0 e),
+                hits-from (numberString (M .columns) y) (row-iff M a (numberString (M .columns) y) b v h .0 e),
                 string-of-number (M .columns) y (omega (arith, first-lt)),
               ))),
         )
@@ -138,7 +138,7 @@ module _ (M : Matrix) (a : Accepted M) (v : ℕ) (h : v < M .rows) where
   pub never-hit : p M v ≡ 0 → (s : List ℕ) → Bits (M .columns) s → hits v (drawn M s) ≡ false
   unfolding p
   never-hit z s b =
-      not-true (hits v (drawn M s))
+      not-passed (hits v (drawn M s))
       (λ e.
       let q = row-iff M a s b v h .0 e in
       omega (
@@ -175,7 +175,7 @@ module _ (M : Matrix) (a : Accepted M) (v : ℕ) (h : v < M .rows) where
           ((i : ℕ) → c < i → i < M .columns → digit (M .columns) x i ≡ 0)
       by none q f = absurd (Option·some-ne-none x (sym e ∙ number-none (all-zero f)))
       by (some c) q f =
-          let z : x ≡ firstNumber (bit M) (M .rows) (M .columns) v c = Option·some-injective x (firstNumber (bit M) (M .rows) (M .columns) v c) (sym e ∙ number-first c f) in
+          let z : x ≡ first c f = Option·some-injective x (first c f) (sym e ∙ number-first c f) in
           (c, q, rw z (first-hits c f), (λ i a l. rw z (digit-behind (M .columns) (leading (bit M) (M .rows) v c) c i a l)))
 
   -- ---- none exactly where the row is all zero

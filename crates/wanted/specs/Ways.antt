@@ -9,21 +9,20 @@ use borrow.Author.Tests.{le-leb, lt-leb, lt-ltb, le-ltb, eq-eqb, ne-eqb}
 use lib.Dec.{eqb}
 use lib.ListN.{getD}
 use Rattle.laws.specs.Tests.{reached}
-use Rattle.laws.specs.Digits.{number, digit, number-shift}
-use Rattle.laws.specs.Sums.{sum-eq}
+use Rattle.laws.specs.Digits.{digit}
 use Rattle.laws.specs.Smallest.{smallest, smallest-lt, smallest-eq, smallest-more, smallest-found}
 use Rattle.laws.specs.Lists.{upto, getD-upto}
 use Rattle.laws.specs.Outcome.{refused, gives, mapped, mapped-gives, mapped-refused}
 use Rattle.fields.specs.Fields.{width, packed, packed-eq}
-use Rattle.files.specs.Matrix.{Matrix, Sizes, sizes, bit, ones-in}
+use Rattle.files.specs.Matrix.{Matrix, Sizes, sizes, bit}
 use Rattle.files.specs.Files.{matrixOf}
-use Rattle.files.specs.Live.{total-from}
+use Rattle.files.specs.Live.{ones-eq, total-eq}
 use Rattle.files.specs.RoundTrip.{read-accepted}
 use Rattle.walk.specs.Walk.{fileRows}
 use Rattle.walk.specs.Ways.{rows-are}
 use Rattle.walk.specs.Numbers.{numberString}
 use Rattle.walk.specs.Packed.{packedString}
-use Rattle.walk.specs.Intervals.{total-to, leading, firstNumber}
+use Rattle.walk.specs.Intervals.{leading, firstNumber}
 use Rattle.wanted.specs.Wanted.{numberFor, packedNumber, wantedOf}
 use Rattle.wanted.specs.Theorems.{firstColumn, firstOf, number-is}
 
@@ -49,19 +48,10 @@ module _ (f : ℕ → ℕ) (n : ℕ) where
 
 -- ---- the first number of an interval depends on the bits of the m rows and n columns alone
 module _ (f g : ℕ → ℕ → ℕ) (m n : ℕ) (same : (v c : ℕ) → v < m → c < n → f v c ≡ g v c) where
-  ones-eq : (r c : ℕ) → r ≤ m → c < n → ones-in f r c ≡ ones-in g r c
-  unfolding ones-in
-  ones-eq r c a h = sum-eq r (λ v. f v c) (λ v. g v c) (λ v l. same v c (omega arith) h)
-
-  total-eq : (c : ℕ) → c ≤ n → total-to f m c ≡ total-to g m c
-  unfolding total-from
-  total-eq c h =
-      sum-eq m (λ v. number (f v) 0 c) (λ v. number (g v) 0 c)
-      (λ v l. number-shift (f v) (g v) 0 0 c (λ i b. same v (0 + i) l (omega arith)))
-
   first-eq : (v c : ℕ) → v < m → c < n → firstNumber f m n v c ≡ firstNumber g m n v c
   unfolding firstNumber leading
-  first-eq v c a h = rw (total-eq c (omega arith), ones-eq m c (omega arith) h, ones-eq (suc v) c a h)
+  first-eq v c a h =
+      rw (total-eq f g m n same c (omega arith), ones-eq f g m n same m c (omega arith) h, ones-eq f g m n same (suc v) c a h)
 
 -- ---- a number's string, packed
 packed-number : (n x : ℕ) → packedString n (numberString n x) ≡ packed n (digit n x)

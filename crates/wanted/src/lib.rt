@@ -90,9 +90,9 @@ fn add_bit(string: &mut [u8], i: usize, b: u8)
     string[i / 8] += b << (7 - i % 8);
 }
 
-// Lays the smallest string that hits a row in column c, packed, at the front of `string`. The bits are found from column c back: that of a
-// column is e % 2, where e is first the number of set rows above the row, and then, for the column to the left, e / 2 and the ones of that
-// column. The bits after column c are 0.
+// Lays the smallest string that hits a row in column c, packed, at the front of `string`. Its bits up to a column spell 2T + e, with T of
+// the columns before that one; in column c, e is the number of set rows above the row. So the bit of a column is e % 2; and as T is twice T
+// of one column less, and the ones of that column, e is there e / 2 and these ones. The bits after column c are 0.
 fn lay_string(file: &[u8], m: usize, n: usize, row: usize, c: usize, string: &mut [u8])
     requires { ⌜ (row < m) × (m ≤ 65535) × (c < n) × (n ≤ 65535) × (width n ≤ length (now string)) ⌝ }
     ensures { λ _. ⌜ (

@@ -1,6 +1,6 @@
 //! 02, order 7: strings for the rows of matrices, also of those that are all zero or are set in the
-//! last column alone; limits, what is lent one short, exact and longer, and every refusal, alone and
-//! with each later one.
+//! last column alone; limits, what is lent one short, exact and longer, and the refusals: the
+//! matrix's, and each of 6, 3 and 13 with the later ones.
 
 use super::cases::string_for;
 use super::line::Line;

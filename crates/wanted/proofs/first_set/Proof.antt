@@ -31,10 +31,9 @@ returns c =
 
 loop-again : tie.Need-loop-again Inv-loop μ-loop
 loop-again c =
-    let at = c .before .before .before .loop in (
-      at .inv .0,
-      unset-more _ _ _ _ (c .before .before .loop-test .taken) (rw (at .inv .0) at (c .before .bit .ensures .0)) (c .if1 .left) (at .inv .1),
-    )
+    let at = c .before .before .before .loop in
+    let bit = rw (at .inv .0) at (c .before .bit .ensures .0) in
+    (at .inv .0, unset-more _ _ _ _ (c .before .before .loop-test .taken) bit (c .if1 .left) (at .inv .1))
 
 returns-2 : tie.Need-returns-2 Inv-loop μ-loop
 returns-2 c = unset-all _ _ _ (c .loop-test .left) (c .before .loop .inv .1)

@@ -5,14 +5,14 @@ use Prim.Native.Nat.{_*_, _≤_, _<_}
 use lib.ListN.{length}
 use Rattle.walk.specs.Walk.{fileRows}
 use Rattle.walk.specs.Intervals.{firstNumber}
-use Rattle.wanted.specs.Back.{Laid, first-fits, first-laid, next-fits, next-laid, laid-again, laid-all}
+use Rattle.wanted.specs.Back.{LaidFrom, first-fits, first-laid, next-fits, next-laid, laid-again, laid-all}
 use Rattle.wanted.proofs.lay_string.Statement.{statement}
 use Rattle.wanted.proofs.lay_string.Tie as tie
 
 abbrev Inv-loop : tie.InvT-loop
 Inv-loop file m n row c string₀ i₀ e₀ string i e =
     (length string ≡ length string₀) × (i < n) × (e ≤ 2 * m) ×
-    Laid (fileRows file n) m n (firstNumber (fileRows file n) m n row c) i e string₀ string
+    LaidFrom (fileRows file n) m n (firstNumber (fileRows file n) m n row c) i e string₀ string
 
 abbrev μ-loop : tie.MeasureT-loop
 μ-loop file m n row c string₀ i₀ e₀ string i e = i
@@ -34,7 +34,8 @@ loop-holds c =
     let ones = c .before .before .before .before in
     let begun = ones .before .before .before in
     let p = begun .before .before .before .before .pre in
-    let first = first-laid _ _ _ _ _ _ (p .2) (ones .ones .ensures .0) _ _ (begun .clear .ensures) _ (c .before .before .add-bit .ensures) in
+    let added = c .before .before .add-bit .ensures in
+    let first = first-laid _ _ _ _ _ _ (p .2) (ones .ones .ensures .0) _ _ (begun .clear .ensures) _ added in
     (search needs, search needs, search needs, laid-again _ _ _ _ _ _ _ _ first)
 
 add-bit-requires-2 : tie.Need-add-bit-requires-2 Inv-loop μ-loop
@@ -64,7 +65,8 @@ returns c =
     let ones = c .before .before .before .before .before .before in
     let begun = ones .before .before .before in
     let p = begun .before .before .before .before .pre in
-    let first = first-laid _ _ _ _ _ _ (p .2) (ones .ones .ensures .0) _ _ (begun .clear .ensures) _ (c .before .before .before .before .add-bit .ensures) in
+    let added = c .before .before .before .before .add-bit .ensures in
+    let first = first-laid _ _ _ _ _ _ (p .2) (ones .ones .ensures .0) _ _ (begun .clear .ensures) _ added in
     laid-all _ _ _ _ _ _ _ _ _ _ _ (c .loop-test .left) first (c .before .loop .inv .3)
 
 pub lay-string-spec : {M : Type 1} → statement M

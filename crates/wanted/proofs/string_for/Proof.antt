@@ -20,7 +20,8 @@ returns-2 : tie.Need-returns-2
 returns-2 c =
     let sizes = c .before .before .before .before in
     let accepted = rw (sizes .rows .given .1) at (sizes .before .before .check .ensures) in
-    ends-refused _ _ _ _ _ (wanted-room _ _ _ _ accepted (omega (arith, c .before .before .if1 .left)) (rw (c .before .width .ensures) at (c .if2 .taken)))
+    let short = rw (c .before .width .ensures) at (c .if2 .taken) in
+    ends-refused _ _ _ _ _ (wanted-room _ _ _ _ accepted (omega (arith, c .before .before .if1 .left)) short)
 
 first-set-requires : tie.Need-first-set-requires
 first-set-requires c κs =
@@ -52,8 +53,8 @@ returns-4 c =
     let accepted = rw (sizes .rows .given .1) at (sizes .before .before .check .ensures) in
     let room = c .before .before .before in
     let column = rw (c .enum-told .given .1) at (c .before .before .first-set .ensures) in
-    ends-given _ _ _ _ _ _ _
-    (wanted-none _ _ _ _ accepted (omega (arith, room .before .before .if1 .left)) (rw (room .before .width .ensures) at (room .if2 .left)) column) refl
+    let fits = rw (room .before .width .ensures) at (room .if2 .left) in
+    ends-given _ _ _ _ _ _ _ (wanted-none _ _ _ _ accepted (omega (arith, room .before .before .if1 .left)) fits column) refl
     (lay-nothing _)
 
 returns-5 : tie.Need-returns-5
@@ -61,9 +62,10 @@ returns-5 c =
     let sizes = c .before .before .before .before .before .before .before .before .before .before .before .before in
     let accepted = rw (sizes .rows .given .1) at (sizes .before .before .check .ensures) in
     let room = c .before .before .before .before .before .before .before .before in
-    let column = rw (c .before .before .before .before .before .c .given .1) at (c .before .before .before .before .before .before .before .first-set .ensures) in
-    ends-given _ _ _ _ _ _ _
-    (wanted-found _ _ _ _ accepted (omega (arith, room .before .before .if1 .left)) (rw (room .before .width .ensures) at (room .if2 .left)) _ column) refl
+    let found = c .before .before .before .before .before in
+    let column = rw (found .c .given .1) at (found .before .before .first-set .ensures) in
+    let fits = rw (room .before .width .ensures) at (room .if2 .left) in
+    ends-given _ _ _ _ _ _ _ (wanted-found _ _ _ _ accepted (omega (arith, room .before .before .if1 .left)) fits _ column) refl
     (c .before .before .lay-string .ensures)
 
 pub string-for-spec : {M : Type 1} → statement M
