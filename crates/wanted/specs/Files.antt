@@ -132,7 +132,7 @@ module _ (file : List ℕ) (M : Matrix) (e : matrixOf file ≡ gives M) (row roo
     unfolding packedString
     laid-long = ap length (made-of .1 .2) ∙ length-packed (M .columns) (λ i. getD string i 0)
 
-    -- spare bits are 0: a string that every operation takes
+    -- spare bits are 0: the walk takes the string
     pub laid-sound : stringsOf 1 (M .columns) bytes ≡ gives tt
     laid-sound =
         let a = read-accepted file M e in

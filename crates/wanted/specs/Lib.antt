@@ -2,5 +2,6 @@
 pub mod Wanted
 pub mod Theorems
 pub mod Files
+pub mod Adding
 pub mod Back
 pub mod Ways

@@ -82,7 +82,7 @@ module _ (M : Matrix) (a : Accepted M) (v : ℕ) (h : v < M .rows) where
   clear : (c : ℕ) → c < M .columns → eqb (bit M v c) 1 ≡ false → bit M v c ≡ 0
   clear c l e = omega (arith, accepted-bits M a v c h l, eqb-false (bit M v c) 1 e)
 
-  -- T of all columns is T
+  -- T, as that of all columns, is at most 2^n
   whole : total-from (bit M) (M .rows) 0 (M .columns) ≤ 2 ^ M .columns
   unfolding total-from total p
   whole = a .sum

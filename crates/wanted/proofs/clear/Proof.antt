@@ -5,7 +5,7 @@ use Prim.Native.Nat.{_-_, _≤_}
 use Rattle.laws.specs.Lists.{upto}
 use Rattle.laws.specs.Lay.{Laid, upto-none, laid-store, upto-done}
 use Rattle.fields.specs.Fields.{width}
-use Rattle.wanted.specs.Back.{cleared}
+use Rattle.wanted.specs.Adding.{cleared}
 use Rattle.wanted.proofs.clear.Statement.{statement}
 use Rattle.wanted.proofs.clear.Tie as tie
 
