@@ -77,7 +77,7 @@ module _ (file : List ℕ) (M : Matrix) (e : matrixOf file ≡ gives M) (space :
     smaller-given s b l choice f =
         ap (says row) (given-is s b choice f) ∙ (says-hits row (drawn M s) ∙ least .least s b l)
 
-    -- the same after any stops that are resumed as left
+    -- the row is given after any stops too that are resumed as left
     pub wanted-stops : (inputs registers outputs : List ℕ) → ((i : ℕ) → getD inputs i 0 < 2 ^ lanes) → program M .inputs ≤ length inputs →
         program M .registers ≤ length registers → program M .outputs ≤ length outputs → (b : ℕ) (bs : List ℕ) (j : ℕ) → b < 2 ^ 32 →
         program M .count ≤ together b (allBudgets bs) → j < lanes → laneBits (M .columns) inputs j ≡ string →
