@@ -10,6 +10,8 @@
 
 enum { CHARACTERS = 40, ROWS = CORKHOLLOW_ROWS };
 
+_Static_assert(32 * FRACTION_LIMBS >= CORKHOLLOW_COLUMNS, "a row has no more columns than the bounds have bits behind the point");
+
 static _Noreturn void stop(const char *format, ...) {
     va_list list;
     va_start(list, format);

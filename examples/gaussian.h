@@ -19,11 +19,12 @@
  * CORKHOLLOW_MOST_ENTRIES, and tells how many rows there are: all up to the last that is above 0.
  *
  * Sigma is a decimal number such as "6.15543" or a fraction of whole numbers such as "13/2", from 1/16 to below 128, of at most 40
- * characters; the columns are 1 to 128.
+ * characters; the columns are 1 to 192.
  *
  * Otherwise the program ends with a message. So it does where the curve needs more than 128 rows: no tail is cut off. With 128 columns
- * that is from a sigma of about 9.75 on; the message tells how many columns such a sigma can have. And so it does where the bounds by
- * which all is computed do not tell a row for certain: more precision is needed then, and nothing is guessed.
+ * that is from a sigma of about 9.75 on, with 192 from about 7.91; the message tells how many columns such a sigma can have. And so it
+ * does where the bounds by which all is computed do not tell a row for certain: more precision is needed then, and nothing is guessed. They
+ * have 320 bits behind the point, 128 more than a row of 192 columns.
  */
 size_t gaussian_table(const char *sigma, size_t columns, uint8_t *entries);
 

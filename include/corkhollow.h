@@ -74,11 +74,11 @@ enum corkhollow_refusal {
 /* Limits. Rows, columns, weights, registers, inputs, outputs and multipliers begin at 1, instructions at 0. */
 #define CORKHOLLOW_LANES 64
 #define CORKHOLLOW_ROWS 128
-#define CORKHOLLOW_COLUMNS 128
+#define CORKHOLLOW_COLUMNS 192
 #define CORKHOLLOW_REGISTERS 1024
-#define CORKHOLLOW_INPUTS 128
+#define CORKHOLLOW_INPUTS 192
 #define CORKHOLLOW_OUTPUTS 8
-#define CORKHOLLOW_INSTRUCTIONS 131072
+#define CORKHOLLOW_INSTRUCTIONS 262144
 #define CORKHOLLOW_MOST_MULTIPLIER 1000
 #define CORKHOLLOW_TABLE_COLUMNS 63 /* of a cumulative table, and of a matrix that has one */
 

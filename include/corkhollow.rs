@@ -11,11 +11,11 @@ use core::fmt;
 
 pub const LANES: usize = 64;
 pub const ROWS: usize = 128;
-pub const COLUMNS: usize = 128;
+pub const COLUMNS: usize = 192;
 pub const REGISTERS: usize = 1024;
-pub const INPUTS: usize = 128;
+pub const INPUTS: usize = 192;
 pub const OUTPUTS: usize = 8;
-pub const INSTRUCTIONS: usize = 131_072;
+pub const INSTRUCTIONS: usize = 262_144;
 pub const MOST_MULTIPLIER: u32 = 1_000;
 /// The most columns of a cumulative table, and of a matrix that has one.
 pub const TABLE_COLUMNS: usize = 63;

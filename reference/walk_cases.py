@@ -167,12 +167,17 @@ def look_up(cases):
     assert hits[254:] == [None, None] and set(hits[:224]) == {0, 1} and set(hits[224:254]) == {0, 1, 2}
 
 
-def gaussian(cases):
-    """Source document 002: distances of the discrete Gaussian of deviation 6.15543 up to 14 deviations."""
+def curve(count, n):
+    """Source document 002: so many distances of the discrete Gaussian of deviation 6.15543, in n columns."""
     sigma = Decimal("6.15543")
     weights = [(-Decimal(v * v) / (2 * sigma * sigma)).exp() for v in range(400)]
     whole = 2 * sum(weights) - 1
-    rows = [int((1 if v == 0 else 2) * weights[v] / whole * 2**128) for v in range(87)]
+    return [int((1 if v == 0 else 2) * weights[v] / whole * 2**n) for v in range(count)]
+
+
+def gaussian(cases):
+    """Its distances up to 14 deviations."""
+    rows = curve(87, 128)
     cases.note("source document 002, deviation 6.15543: 87 rows of 128 columns; the highest row within 32 columns, then within 64")
     cases.matrix(rows, 128)
     assert cases.highest(32) == 39 and cases.highest(64) == 56
@@ -196,9 +201,47 @@ def spent(cases):
     assert (Fraction(total, 64 * batches) - mean) ** 2 < 25 * (cases.moment(2) - mean**2) / (64 * batches)
 
 
+def fine(cases):
+    """02, order 8: the same curve in 192 columns, with all distances that have a share there."""
+    rows = curve(100, 192)
+    assert rows[99] == 5 and curve(101, 192)[100] == 0 and [r >> 64 for r in rows[:87]] == curve(87, 128)
+    cases.note("02, order 8, deviation 6.15543: 100 rows of 192 columns; the highest row within 128, and within all; T is 2^192 - 50")
+    cases.matrix(rows, 192)
+    assert cases.highest(128) == 81 and cases.highest(192) == 99
+    cases.total()
+    assert sum(rows) == 2**192 - 50
+    cases.each_row()
+    cases.at_random(20)
+    cases.note("the last string that hits, the first that misses, and the last, which uses all columns")
+    assert cases.string(2**192 - 51) is not None and cases.string(2**192 - 50) is None and cases.string(2**192 - 1) is None
+    cases.note("the 50 strings that miss, 14 of them twice: 64 that use 12288 columns together; and 4 batches of 64 strings at random")
+    assert cases.batch([2**192 - 1 - j % 50 for j in range(64)]) == 64 * 192 == 12288
+    for _ in range(4):
+        cases.batch([chance.getrandbits(192) for _ in range(64)])
+
+
+def last_column(cases):
+    """02, order 8, by hand: walks that go on to the last of 192 columns."""
+    cases.note("one row of 192 columns, set in the last: zeros hit there, and a 1 in any column misses; in the first d becomes 2^191")
+    cases.matrix([1], 192)
+    cases.total()
+    assert [cases.string(x) for x in (0, 1, 2**63, 2**64, 2**127, 2**128, 2**191)] == [0] + [None] * 6
+    assert cases.batch([0, 2**191] * 32) == 12288
+    cases.note("rows 1 0..0, 0 1..1 and 0..0 1 of 192 columns: T is 2^192, none misses, and the two last strings hit in the last column")
+    cases.matrix([2**191, 2**191 - 1, 1], 192)
+    cases.total()
+    assert [cases.string(x) for x in (0, 2**191, 2**192 - 2, 2**192 - 1)] == [0, 1, 2, 1]
+    assert [cases.used(x) for x in (0, 2**191, 2**192 - 4, 2**192 - 2, 2**192 - 1)] == [1, 2, 191, 192, 192]
+    assert None not in cases.at_random(8) and cases.batch([2**192 - 1] * 64) == 12288 and cases.batch([0] * 64) == 64
+    cases.note("two rows of 129 columns, 1 0..0 and 0..0 1: a string that begins with 1 hits in column 129, or misses")
+    cases.matrix([2**128, 1], 129)
+    assert [cases.string(x) for x in (0, 2**128 - 1, 2**128, 2**128 + 1, 2**129 - 1)] == [0, 0, 1, None, None]
+    assert cases.batch([0, 2**128, 2**128 + 1, 2**129 - 1] * 16) == 16 * (1 + 129 + 129 + 129)
+
+
 def main():
     cases = Cases()
-    for part in (hand, table_5, look_up, gaussian):
+    for part in (hand, table_5, look_up, gaussian, fine, last_column):
         part(cases)
     for name, lines in (("stdin", cases.lines), ("stdout", cases.printed)):
         with open("crates/walk_cases/" + name, "w", encoding="ascii") as f:

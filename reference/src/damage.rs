@@ -78,7 +78,30 @@ pub fn turned_bits(file: &[u8]) -> Vec<Edit> {
     places.map(|(at, bit)| Edit::Bit { at, bit }).collect()
 }
 
-/// Edits of the header fields of a matrix file, and of its end.
+/// The field at a byte set to each of these values that it does not hold.
+fn set_to(file: &[u8], at: usize, values: &[u16]) -> Vec<Edit> {
+    let changed = values
+        .iter()
+        .filter(|&&value| value != field(file, at) as u16);
+    changed.map(|&value| Edit::Field { at, value }).collect()
+}
+
+/// Edits of a matrix file's columns next to their limit (02, order 8). They stand apart from those
+/// below, so that what was chosen of these stays the same.
+pub fn matrix_limit_edits(file: &[u8]) -> Vec<Edit> {
+    set_to(file, 6, &[136, 191, 192, 193, 200, 256 + 192])
+}
+
+/// Edits of a program file's inputs, and of the higher half of its count, next to their limits (02,
+/// order 8). They stand apart likewise.
+pub fn program_limit_edits(file: &[u8]) -> Vec<Edit> {
+    let mut edits = set_to(file, 6, &[136, 191, 192, 193, 200, 256 + 192]);
+    edits.extend(set_to(file, 12, &[4, 5, 256 + 4]));
+    edits
+}
+
+/// Edits of the header fields of a matrix file, and of its end. 128 is the most rows, and was the
+/// most columns.
 pub fn matrix_edits(file: &[u8]) -> Vec<Edit> {
     let mut edits = field_edits(file, 0, &[7, 8, 9]);
     edits.extend(field_edits(file, 2, &[16, 31, 33]));
@@ -116,7 +139,8 @@ pub fn instruction_edits(file: &[u8]) -> Vec<Edit> {
     edits
 }
 
-/// Edits of the header fields of a program file, and of its end.
+/// Edits of the header fields of a program file, and of its end. 128 was the most inputs, and twice
+/// 65,536 the most instructions.
 pub fn program_header_edits(file: &[u8]) -> Vec<Edit> {
     let mut edits = field_edits(file, 0, &[13, 15, 16]);
     edits.extend(field_edits(file, 2, &[15, 17, 32]));

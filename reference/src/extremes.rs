@@ -7,13 +7,18 @@ use crate::matrix::{Matrix, MOST_COLUMNS, MOST_ROWS};
 /// without a bit.
 const OPENING: usize = 7;
 
-/// The matrix of 128 rows and columns whose rows are set in every column from the eighth on. It has
-/// the longest program that there is with that beginning: a column keeps 128 places open and marks
-/// 128 rows.
+/// The matrix of 128 rows and 192 columns whose rows are set in every column from the eighth on. It
+/// has the longest program that there is with that beginning: a column keeps 128 places open and
+/// marks 128 rows.
 pub fn longest_program() -> Matrix {
-    let mut matrix = empty(MOST_COLUMNS);
+    longest_program_of(MOST_COLUMNS)
+}
+
+/// The same with so many columns.
+pub fn longest_program_of(columns: usize) -> Matrix {
+    let mut matrix = empty(columns);
     for v in 0..MOST_ROWS {
-        for c in OPENING..MOST_COLUMNS {
+        for c in OPENING..columns {
             set(&mut matrix, v, c);
         }
     }

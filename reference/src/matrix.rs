@@ -1,4 +1,4 @@
-//! 01, "Matrix and walk" and "Files": matrices as values, and matrix files.
+//! 01, "Matrix and walk" and "Files", and 02, order 8: matrices as values, and matrix files.
 
 use crate::natural::Natural;
 use crate::record::{expect_kind, field, has_spare_bit, pack, packed_length, put, unpack};
@@ -6,8 +6,8 @@ use crate::refusal::{refuse, Answer, BIT, BUFFER, LENGTH, SHORT, SIZE, TOTAL};
 
 /// The most rows of a matrix.
 pub const MOST_ROWS: usize = 128;
-/// The most columns of a matrix.
-pub const MOST_COLUMNS: usize = 128;
+/// The most columns of a matrix (02, order 8).
+pub const MOST_COLUMNS: usize = 192;
 /// The kind of a matrix record.
 pub const MATRIX_KIND: usize = 32;
 /// The bytes of a matrix file before its rows.

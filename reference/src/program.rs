@@ -1,16 +1,16 @@
-//! 01, "Files": the description of a program, its bytes, and its checks.
+//! 01, "Files", and 02, order 8: the description of a program, its bytes, and its checks.
 
 use crate::record::{expect_kind, field, put};
 use crate::refusal::{refuse, Answer, INSTRUCTION, LENGTH, OPERAND, SHORT, SIZE, UNSET, UNWRITTEN};
 
 /// The most registers of a program.
 pub const MOST_REGISTERS: usize = 1_024;
-/// The most inputs of a program.
-pub const MOST_INPUTS: usize = 128;
+/// The most inputs of a program (02, order 8): as many as a matrix has columns.
+pub const MOST_INPUTS: usize = 192;
 /// The most outputs of a program.
 pub const MOST_OUTPUTS: usize = 8;
-/// The most instructions of a program.
-pub const MOST_INSTRUCTIONS: usize = 131_072;
+/// The most instructions of a program (02, order 8).
+pub const MOST_INSTRUCTIONS: usize = 262_144;
 /// The kind of a program's header record.
 pub const PROGRAM_KIND: usize = 16;
 /// The length of a program's header record.

@@ -78,21 +78,36 @@ impl Random {
     }
 }
 
+/// Sizes next to whole bytes and words, and next to a limit, also the one before 02, order 8.
+const EDGES: [usize; 17] = [
+    7, 8, 9, 15, 16, 17, 31, 32, 33, 63, 64, 65, 127, 128, 129, 191, 192,
+];
+
 /// Rows and columns: small ones, uneven ones, and the largest.
 pub fn sizes(random: &mut Random) -> (usize, usize) {
+    sizes_within(random, MOST_COLUMNS)
+}
+
+/// The same with at most so many columns.
+pub fn sizes_within(random: &mut Random, most_columns: usize) -> (usize, usize) {
     let mut size = |most: usize| match random.below(8) {
         0 => 1,
         1..=3 => random.between(1, 9),
-        4 => random.pick(&[7, 8, 9, 15, 16, 17, 31, 32, 33, 63, 64, 65, 127, 128]),
+        4 => random.pick(&EDGES[..EDGES.partition_point(|&edge| edge <= most)]),
         5 => most,
         _ => random.between(1, most),
     };
-    (size(MOST_ROWS), size(MOST_COLUMNS))
+    (size(MOST_ROWS), size(most_columns))
 }
 
 /// An accepted matrix of any sizes.
 pub fn any_matrix(random: &mut Random) -> Matrix {
-    let (rows, columns) = sizes(random);
+    any_matrix_within(random, MOST_COLUMNS)
+}
+
+/// An accepted matrix of any rows and of at most so many columns.
+pub fn any_matrix_within(random: &mut Random, most_columns: usize) -> Matrix {
+    let (rows, columns) = sizes_within(random, most_columns);
     matrix(random, rows, columns)
 }
 

@@ -102,12 +102,9 @@ fn bell(sigma: &Bounds, length: usize) -> Vec<Bounds> {
     values
 }
 
-/// Source document 002, sections 2.1 and 4.1: sigma 6.15543, 87 rows (tail cut at 14 sigma), 128
-/// columns. Row 0 has the probability of 0 and row v that of v and -v together, over all whole
-/// numbers, rounded down.
-pub fn document_002() -> Matrix {
-    const ROWS: usize = 87;
-    const COLUMNS: usize = 128;
+/// Source document 002, sections 2.1 and 4.1, sigma 6.15543: the probability of 0, and for each v
+/// above it that of v and -v together, over all whole numbers.
+fn shares_002() -> impl Iterator<Item = Bounds> {
     let sigma = Bounds::whole(615_543).divided_by(&Bounds::whole(100_000));
     // Beyond 200 every value is below 2^-700, and all of them together are below a unit.
     let values = bell(&sigma, 200);
@@ -117,10 +114,26 @@ pub fn document_002() -> Matrix {
     let sum = both_signs
         .iter()
         .fold(Bounds::at_most_a_unit(), |sum, value| sum.plus(value));
-    let rows: Vec<Natural> = both_signs[..ROWS]
-        .iter()
-        .map(|value| value.divided_by(&sum).scaled_floor(COLUMNS))
-        .collect();
+    both_signs
+        .into_iter()
+        .map(move |value| value.divided_by(&sum))
+}
+
+/// Source document 002's curve with 128 columns: 87 rows (tail cut at 14 sigma), rounded down.
+pub fn document_002() -> Matrix {
+    const ROWS: usize = 87;
+    const COLUMNS: usize = 128;
+    let shares = shares_002().take(ROWS);
+    let rows: Vec<Natural> = shares.map(|share| share.scaled_floor(COLUMNS)).collect();
+    Matrix::from_values(COLUMNS, &rows)
+}
+
+/// The same curve with the 192 columns of 02, order 8, rounded down: all rows that are above 0, and
+/// these are 100. The bounds still have 128 bits more than the last column.
+pub fn document_002_fine() -> Matrix {
+    const COLUMNS: usize = 192;
+    let rows = shares_002().map(|share| share.scaled_floor(COLUMNS));
+    let rows: Vec<Natural> = rows.take_while(|row| !row.is_zero()).collect();
     Matrix::from_values(COLUMNS, &rows)
 }
 

@@ -2,12 +2,13 @@
 
 use reference::compiler::translate;
 use reference::cumulative::{export, import, lookup, sums};
-use reference::draws::draw_signed;
+use reference::draws::{draw, draw_signed};
 use reference::matrix::{check, decode, Matrix};
 use reference::natural::Natural;
 use reference::random::{self, Random};
-use reference::record::unpack;
-use reference::tables::{document_001, document_002, document_004, document_004_cut};
+use reference::record::{pack, unpack};
+use reference::tables::document_004_cut;
+use reference::tables::{document_001, document_002, document_002_fine, document_004};
 use reference::vectors::line::Hash;
 use reference::walk::{place_after, spent, used_by_all, walk, walk_bits, Place};
 use reference::wanted::string_for;
@@ -199,6 +200,91 @@ fn strings_for_the_rows_of_002() {
     assert_eq!(string_for(&file, 87, 16), Err(3));
 }
 
+/// 02, order 8: the curve of 002 with 192 columns. 100 rows are above 0, and the first 128 columns
+/// are the table of 128.
+#[test]
+fn fine_table_of_002() {
+    let (matrix, coarse) = (document_002_fine(), document_002());
+    assert_eq!((matrix.rows, matrix.columns), (100, 192));
+    for (v, digits) in ROWS_002_FINE {
+        assert_eq!(matrix.value(v), Natural::from_hexadecimal(digits));
+    }
+    for v in 0..100 {
+        let expected = if v < 87 {
+            coarse.value(v)
+        } else {
+            Natural::zero()
+        };
+        assert_eq!(matrix.value(v).shifted_down(64), expected);
+    }
+    assert_eq!(matrix.misses(), Natural::from(50));
+    assert_eq!(Hash::of(&matrix.encode()).value(), HASH_002_FINE);
+    let header = translate(&matrix).header;
+    assert_eq!(
+        (header.registers, header.inputs, header.outputs),
+        (310, 192, 8)
+    );
+    assert_eq!(header.count, 43_985);
+}
+
+/// The mean is that of 128 columns, to ten-thousandths, and so is the deviation, 1.701.
+#[test]
+fn bits_spent_by_the_fine_table_of_002() {
+    let matrix = document_002_fine();
+    assert_eq!(mean_used(&matrix), Natural::from(48_806));
+    assert!(spent_by_batches(&matrix, 6).abs_diff(195_225) < 2_042);
+}
+
+/// Strings for its rows, the 50 that miss, and random ones, 64 at a time: what they draw, with both
+/// signs, is the row by which they were made, or the walk's.
+#[test]
+fn draws_of_the_fine_table_of_002() {
+    let (matrix, file) = (document_002_fine(), document_002_fine().encode());
+    let program = translate(&matrix).encode();
+    let mut random = Random::new(7);
+    let mut cases: Vec<(Vec<u8>, Option<usize>)> = Vec::new();
+    for row in 0..100 {
+        let string = string_for(&file, row, 24).unwrap().unwrap();
+        let walked = walk(&file, &string).unwrap();
+        let zeros = 192 - matrix.value(row).width();
+        assert_eq!((walked.row, walked.used), (Some(row), zeros + 1));
+        cases.push((string, Some(row)));
+    }
+    for i in 0..50 {
+        let number = matrix.total().plus(&Natural::from(i));
+        cases.push((pack(&number.bits(192)), None));
+    }
+    while cases.len() < 640 {
+        let bits = random::string(&mut random, &matrix);
+        cases.push((pack(&bits), walk_bits(&matrix, &bits).row));
+    }
+    for batch in cases.chunks(64) {
+        let strings: Vec<u8> = batch.iter().flat_map(|case| case.0.clone()).collect();
+        let rows = batch.iter().map(|case| case.1.map_or(255, |row| row as u8));
+        assert_eq!(draw(&program, &strings, 64), Ok(rows.collect()));
+        let negated = batch
+            .iter()
+            .map(|case| case.1.map_or(32_767, |row| -(row as i16)));
+        let drawn = draw_signed(&program, &strings, u64::MAX, 64);
+        assert_eq!(drawn, Ok(negated.collect()));
+    }
+}
+
+/// 02, order 7, with 192 columns: strings worked out by other means. With 128 columns rows 82 and up
+/// have none; here they are hit in columns above 128.
+#[test]
+fn strings_for_the_rows_of_the_fine_table_of_002() {
+    let file = document_002_fine().encode();
+    for (row, digits, used) in STRINGS_002_FINE {
+        let string = string_for(&file, row, 24).unwrap().unwrap();
+        let number = Natural::from_bits(&unpack(&string, 192));
+        assert_eq!(number, Natural::from_hexadecimal(digits), "row {row}");
+        assert_eq!(walk(&file, &string).unwrap().used, used);
+    }
+    assert_eq!(string_for(&file, 100, 24), Err(3));
+    assert_eq!(string_for(&file, 99, 23), Err(13));
+}
+
 /// Section 5.2: 0 gives 0 and 10 gives 1, as in the look-up tables above. Row 2 is row 0 moved right
 /// by four places, so that its first 1 is in column 4; the columns before have one each, of rows 0,
 /// 1, 0 and 1, and leave 11110 for it.
@@ -335,4 +421,43 @@ const STRINGS_002: [(usize, &str); 13] = [
     (56, "ffffffffffffff8c0000000000000000"),
     (80, "fffffffffffffffffffffffffffffd70"),
     (81, "ffffffffffffffffffffffffffffffb0"),
+];
+
+/// Rows of that curve with 192 columns, worked out with 160 and with 260 decimal digits by other
+/// means.
+const ROWS_002_FINE: [(usize, &str); 16] = [
+    (0, "10977b8602122956de82d2ef3a925ade4ad6b98a505989ec"),
+    (1, "20bf995d628b4af6188172aa1382a4d6c5c90f486efe283c"),
+    (2, "1f7a2f4b382ff80fca8ef0036a3cc9c3421a1a1e3fee05b1"),
+    (3, "1d77a760df2762cf85122049f583a54dd7e63bc6aeb4abe7"),
+    (38, "2f3689be2a219f1c18f26c192e77042170f145c59"),
+    (39, "11174c6fe30b0b946ac894dfe6ecebe4cfa5c42b5"),
+    (40, "60697bd1627a9e900cc4efb80063b6ae86887da9"),
+    (56, "28bd32f2e58ee941c3352b389a99e8195"),
+    (57, "92babee7792b6a755e6a1b36de79f9fe"),
+    (81, "11a85f366785b973a"),
+    (82, "20e063d58b61a4f8"),
+    (86, "12f7043e58e0f"),
+    (87, "1ef1f039b32b"),
+    (97, "3c9"),
+    (98, "49"),
+    (99, "5"),
+];
+
+/// The hash of the whole file of that table, by the same means.
+const HASH_002_FINE: u64 = 0xd655_c447_465c_58e3;
+
+/// The strings for some of its rows, and the columns that they use, by the same means.
+const STRINGS_002_FINE: [(usize, &str, usize); 11] = [
+    (1, "000000000000000000000000000000000000000000000000", 3),
+    (7, "200000000000000000000000000000000000000000000000", 4),
+    (0, "800000000000000000000000000000000000000000000000", 4),
+    (39, "ffffffd40000000000000000000000000000000000000000", 32),
+    (40, "fffffff58000000000000000000000000000000000000000", 34),
+    (56, "ffffffffffffff8c00000000000000000000000000000000", 63),
+    (81, "ffffffffffffffffffffffffffffffb00000000000000000", 128),
+    (82, "fffffffffffffffffffffffffffffff68000000000000000", 131),
+    (97, "ffffffffffffffffffffffffffffffffffffffffffff4000", 183),
+    (98, "ffffffffffffffffffffffffffffffffffffffffffffe600", 186),
+    (99, "fffffffffffffffffffffffffffffffffffffffffffffe90", 190),
 ];

@@ -70,8 +70,10 @@ fn matrix_checks_come_in_their_order() {
     assert_eq!(check(&raw(65_535, 32, 1, 1, &[0; 12])), Err(1));
     assert_eq!(check(&raw(9, 32, 0, 1, &[1])), Err(3));
     assert_eq!(check(&raw(9, 32, 129, 1, &[1])), Err(3));
-    assert_eq!(check(&raw(9, 32, 1, 129, &[1])), Err(3));
+    assert_eq!(check(&raw(9, 32, 1, 193, &[1])), Err(3));
+    assert_eq!(check(&raw(9, 32, 129, 193, &[1])), Err(3));
     assert_eq!(check(&raw(9, 32, 1, 257, &[1])), Err(3));
+    assert_eq!(check(&raw(9, 32, 1, 192, &[1])), Err(4));
     assert_eq!(check(&raw(8, 32, 1, 1, &[1])), Err(4));
     assert_eq!(check(&raw(10, 32, 1, 1, &[1, 1])), Err(4));
     assert_eq!(check(&raw(9, 32, 1, 1, &[1, 1])), Err(4));
@@ -83,7 +85,7 @@ fn matrix_checks_come_in_their_order() {
 
 #[test]
 fn a_total_of_exactly_two_to_the_n_is_accepted() {
-    for columns in [1, 2, 63, 64, 65, 127, 128] {
+    for columns in [1, 2, 63, 64, 65, 127, 128, 129, 191, 192] {
         let half = format!("1{}", "0".repeat(columns - 1));
         let one = format!("{}1", "0".repeat(columns - 1));
         assert_eq!(check(&file_of(&[&half, &half])), Ok((2, columns)));
@@ -92,8 +94,10 @@ fn a_total_of_exactly_two_to_the_n_is_accepted() {
         assert_eq!(check(&file_of(&[&full, &one])), Ok((2, columns)));
         assert_eq!(check(&file_of(&[&full, &one, &one])), Err(6));
     }
-    let full = "1".repeat(128);
-    assert_eq!(check(&file_of(&[full.as_str(); 128])), Err(6));
+    for columns in [128, 192] {
+        let full = "1".repeat(columns);
+        assert_eq!(check(&file_of(&[full.as_str(); 128])), Err(6));
+    }
 }
 
 #[test]
@@ -108,7 +112,9 @@ fn read_needs_room_for_the_entries() {
 #[test]
 fn write_tries_sizes_entries_bits_total_and_room() {
     assert_eq!(write(0, 1, &[], 0), Err(3));
-    assert_eq!(write(1, 129, &[], 0), Err(3));
+    assert_eq!(write(1, 193, &[], 0), Err(3));
+    assert_eq!(write(129, 193, &[], 0), Err(3));
+    assert_eq!(write(1, 192, &[], 0), Err(13));
     assert_eq!(write(65_536 + 1, 1, &[2], 0), Err(3));
     assert_eq!(write(1, (1 << 32) + 1, &[2], 0), Err(3));
     assert_eq!(write(usize::MAX, usize::MAX, &[2], 0), Err(3));
@@ -127,6 +133,9 @@ fn write_tries_sizes_entries_bits_total_and_room() {
     );
     assert_eq!(write(128, 128, &[0; 16_384], 2_055), Err(13));
     assert_eq!(write(128, 128, &[0; 16_384], 2_056).unwrap().len(), 2_056);
+    assert_eq!(write(128, 192, &[0; 24_575], 3_080), Err(13));
+    assert_eq!(write(128, 192, &[0; 24_576], 3_079), Err(13));
+    assert_eq!(write(128, 192, &[0; 24_576], 3_080).unwrap().len(), 3_080);
 }
 
 /// 3, then 11, then 13, for either use: each alone and with all that come after it.
@@ -137,11 +146,12 @@ fn build_tries_sizes_sum_and_room() {
             (0, 1),
             (129, 1),
             (1, 0),
-            (1, 129),
+            (1, 193),
             (1, 65_536 + 1),
             (1, (1 << 32) + 1),
             (0, 0),
-            (129, 129),
+            (129, 193),
+            (129, 192),
         ] {
             for weight in [0, 1] {
                 for file_lent in [0, usize::MAX] {
@@ -151,9 +161,11 @@ fn build_tries_sizes_sum_and_room() {
             }
         }
         for number in [1, 2, 3, 128] {
-            for file_lent in [0, 8 + 16 * number - 1, 8 + 16 * number, usize::MAX] {
-                let answer = build(&vec![0; number], 128, signed, file_lent);
-                assert_eq!(answer, Err(11));
+            for file_lent in [0, 8 + 24 * number - 1, 8 + 24 * number, usize::MAX] {
+                for columns in [128, 192] {
+                    let answer = build(&vec![0; number], columns, signed, file_lent);
+                    assert_eq!(answer, Err(11));
+                }
             }
         }
         assert_eq!(build(&[1], 1, signed, 8), Err(13));
@@ -190,8 +202,13 @@ fn build_needs_room_for_the_whole_file() {
         (1, 9, 10),
         (3, 2, 11),
         (2, 128, 40),
+        (2, 129, 42),
+        (1, 136, 25),
+        (1, 191, 32),
+        (2, 192, 56),
         (128, 7, 136),
         (128, 128, 2_056),
+        (128, 192, 3_080),
     ] {
         for signed in [false, true] {
             for weight in [1, 1 << 31, u32::MAX] {
@@ -210,7 +227,7 @@ fn both_uses_are_refused_alike() {
     for _ in 0..4_000 {
         let (number, columns) = random::sizes(&mut random);
         let number = random.pick(&[number, number, number, number, 0, 129]);
-        let columns = random.pick(&[columns, columns, columns, columns, 0, 129]);
+        let columns = random.pick(&[columns, columns, columns, columns, 0, 193]);
         let mut weights = random::weights(&mut random, number);
         if random.once_in(3) {
             weights.fill(0);
@@ -227,18 +244,16 @@ fn both_uses_are_refused_alike() {
     assert!(met.values().all(|&often| often > 200), "{met:?}");
 }
 
-/// 2^128 / 3 is 55..55 in hexadecimal and 2^128 × 2 / 3 is aa..aa; all of S is 2^n - 1. For signed
-/// use S is 1 + 2 × 2, 2^128 / 5 is 33..33 and 2^128 × 4 / 5 is cc..cc.
+/// 2^n / 3 is 55..55 in hexadecimal and 2^n × 2 / 3 is aa..aa, with 128 columns and with 192; all of
+/// S is 2^n - 1. For signed use S is 1 + 2 × 2, 2^n / 5 is 33..33 and 2^n × 4 / 5 is cc..cc.
 #[test]
 fn quotients_are_exact() {
-    let file = build(&[1, 2, 0], 128, false, 56).unwrap();
-    assert_eq!(&file[8..24], [0x55; 16]);
-    assert_eq!(&file[24..40], [0xaa; 16]);
-    assert_eq!(&file[40..], [0; 16]);
-    let file = build(&[1, 2, 0], 128, true, 56).unwrap();
-    assert_eq!(&file[8..24], [0x33; 16]);
-    assert_eq!(&file[24..40], [0xcc; 16]);
-    assert_eq!(&file[40..], [0; 16]);
+    for width in [16, 24] {
+        for (signed, rows) in [(false, [0x55, 0xaa, 0]), (true, [0x33, 0xcc, 0])] {
+            let file = build(&[1, 2, 0], 8 * width, signed, 8 + 3 * width).unwrap();
+            assert_eq!(file[8..], rows.map(|byte| vec![byte; width]).concat());
+        }
+    }
     assert_eq!(
         &build(&[0, 7], 12, false, 12).unwrap()[8..],
         [0, 0, 0xff, 0xf0]
@@ -269,20 +284,20 @@ fn walk_tries_the_string_after_the_matrix() {
 
 #[test]
 fn a_distance_does_not_wrap() {
-    for columns in [33, 65, 66, 97, 128] {
+    for columns in [33, 65, 66, 97, 128, 129, 130, 191, 192] {
         let last = format!("{}1", "0".repeat(columns - 1));
         let mut string = vec![0; columns.div_ceil(8)];
         assert_eq!(walk(&file_of(&[&last]), &string), hit(0, columns));
         string[0] = 0x80;
         assert_eq!(walk(&file_of(&[&last]), &string), miss(columns));
     }
-    // A distance that wraps in 32 or 64 bits would hit here, and use fewer columns than all.
-    for column in [32, 64] {
-        let late = format!("{}1{}", "0".repeat(column), "0".repeat(127 - column));
-        let (zeros, lost) = ([0x00; 16], [&[0x80][..], &[0x00; 15]].concat());
+    // A distance that wraps in 32, 64 or 128 bits would hit here, and use fewer columns than all.
+    for column in [32, 64, 128] {
+        let late = format!("{}1{}", "0".repeat(column), "0".repeat(191 - column));
+        let (zeros, lost) = ([0x00; 24], [&[0x80][..], &[0x00; 23]].concat());
         assert_eq!(walk(&file_of(&[&late]), &zeros), hit(0, column + 1));
-        assert_eq!(walk(&file_of(&[&late]), &lost), miss(128));
-        assert_eq!(spent(&file_of(&[&late]), &lost.repeat(64)), Ok(64 * 128));
+        assert_eq!(walk(&file_of(&[&late]), &lost), miss(192));
+        assert_eq!(spent(&file_of(&[&late]), &lost.repeat(64)), Ok(64 * 192));
     }
 }
 
@@ -294,7 +309,8 @@ fn spent_tries_the_strings_after_the_matrix() {
         assert_eq!(spent(&raw(9, 16, 1, 1, &[]), strings), Err(2));
         assert_eq!(spent(&raw(9, 16, 0, 1, &[0]), strings), Err(2));
         assert_eq!(spent(&raw(9, 32, 0, 1, &[]), strings), Err(1));
-        assert_eq!(spent(&raw(8, 32, 1, 129, &[0]), strings), Err(3));
+        assert_eq!(spent(&raw(8, 32, 1, 193, &[0]), strings), Err(3));
+        assert_eq!(spent(&raw(8, 32, 1, 192, &[0]), strings), Err(4));
         assert_eq!(spent(&raw(8, 32, 1, 1, &[1]), strings), Err(4));
         assert_eq!(spent(&raw(10, 32, 2, 2, &[0xc1, 0xc0]), strings), Err(5));
         assert_eq!(spent(&file_of(&["1", "1", "1"]), strings), Err(6));
@@ -342,7 +358,7 @@ fn strings_of_several_bytes_are_spent() {
 /// The least is one column a string, and the most is all of them.
 #[test]
 fn spent_has_its_least_and_its_most() {
-    for columns in [1, 7, 8, 9, 127, 128] {
+    for columns in [1, 7, 8, 9, 127, 128, 129, 191, 192] {
         let first = format!("1{}", "0".repeat(columns - 1));
         let zeros = vec![0x00; 64 * columns.div_ceil(8)];
         assert_eq!(spent(&file_of(&[&first]), &zeros), Ok(64));
@@ -373,16 +389,22 @@ fn program_header_is_tried_first() {
     assert_eq!(program::check(&sound[..13]), Err(1));
     assert_eq!(program::check(&raw(14, 32, 1, 1, &[])), Err(2));
     assert_eq!(with(2, 32), Err(2));
-    for (at, least, most) in [(4, 0, 1_025), (6, 0, 129), (8, 0, 9), (12, 3, 65_535)] {
+    // With 4 in its higher half, a count of 2 is 262,146.
+    for (at, least, most) in [(4, 0, 1_025), (6, 0, 193), (8, 0, 9), (12, 4, 65_535)] {
         assert_eq!(with(at, least), Err(3));
         assert_eq!(with(at, most), Err(3));
+    }
+    for inputs in [128, 129, 191, 192] {
+        assert_eq!(with(6, inputs), Ok(()));
     }
     for length in [0, 13, 15, 16, 65_535] {
         assert_eq!(with(0, length), Err(4));
     }
-    // 131,072 instructions are within the limits and one more is not.
-    assert_eq!(program::check(&code(1, 1, 1, 131_072, &[])), Err(1));
-    assert_eq!(program::check(&code(1, 1, 1, 131_073, &[])), Err(3));
+    // 262,144 instructions are within the limits and one more is not.
+    for within in [131_072, 131_073, 262_144] {
+        assert_eq!(program::check(&code(1, 1, 1, within, &[])), Err(1));
+    }
+    assert_eq!(program::check(&code(1, 1, 1, 262_145, &[])), Err(3));
     let mut both = code(0, 1, 1, 0, &[]);
     both[0] = 15;
     assert_eq!(program::check(&both), Err(3));
@@ -458,8 +480,11 @@ fn resume_touches_nothing_at_the_end() {
 
 #[test]
 fn slice_tries_columns_strings_bits_and_words() {
-    for columns in [0, 129, 65_536 + 8, (1 << 32) + 8] {
+    for columns in [0, 193, 65_536 + 8, (1 << 32) + 8] {
         assert_eq!(slice(columns, &[1], 0), Err(3));
+    }
+    for columns in [128, 129, 192] {
+        assert_eq!(slice(columns, &[1], 0), Err(13));
     }
     assert_eq!(slice(7, &[1; 63], 0), Err(13));
     let mut strings = [0x80; 64];
@@ -705,7 +730,7 @@ fn tables_have_1_to_63_columns() {
         assert_eq!(export(&file, 3).unwrap().columns, columns);
         assert_eq!(lookup(&[0, 1, 1], columns, 1), Ok(Some(0)));
     }
-    for columns in [0, 64, 65, 127, 128, 129, 258, 65_538] {
+    for columns in [0, 64, 65, 127, 128, 129, 192, 193, 258, 65_538] {
         assert_eq!(import(&[0, 1, 1], columns, usize::MAX), Err(3));
         assert_eq!(lookup(&[0, 1, 1], columns, 1), Err(3));
     }
@@ -713,7 +738,7 @@ fn tables_have_1_to_63_columns() {
         assert_eq!(import(&[0, 1, 1], columns, usize::MAX), Err(3));
         assert_eq!(lookup(&[0, 1, 1], columns, 1), Err(3));
     }
-    for columns in 64..=128 {
+    for columns in 64..=192 {
         let file = file_of(&[&"0".repeat(columns)]);
         assert_eq!(export(&file, 2), Err(3));
         assert_eq!(export(&file, 0), Err(3));
@@ -838,7 +863,8 @@ fn export_tries_the_matrix_then_columns_then_room() {
     assert_eq!(export(&raw(17, 32, 1, 65, &zeros)[..3], 0), Err(1));
     assert_eq!(export(&raw(17, 16, 1, 65, &zeros), 0), Err(2));
     assert_eq!(export(&raw(17, 32, 1, 65, &zeros[1..]), 0), Err(1));
-    assert_eq!(export(&raw(17, 32, 1, 129, &zeros), 0), Err(3));
+    assert_eq!(export(&raw(17, 32, 1, 193, &zeros), 0), Err(3));
+    assert_eq!(export(&raw(17, 32, 1, 192, &zeros), 0), Err(4));
     assert_eq!(export(&raw(16, 32, 1, 65, &zeros), 0), Err(4));
     let spare = [0, 0, 0, 0, 0, 0, 0, 0, 1];
     assert_eq!(export(&raw(17, 32, 1, 65, &spare), 0), Err(5));
@@ -880,7 +906,7 @@ fn string_for_takes_numbers_below_the_rows() {
 /// At every n: a row of which the string has only ones, one with only zeros, and one without any.
 #[test]
 fn string_for_needs_room_for_the_string() {
-    for columns in 1..=128usize {
+    for columns in 1..=192usize {
         let one = format!("{}1", "0".repeat(columns - 1));
         let (ones, zeros) = ("1".repeat(columns), "0".repeat(columns));
         let file = file_of(&[&one, &ones, &zeros]);
@@ -911,7 +937,8 @@ fn string_for_tries_the_matrix_then_the_row_then_room() {
         assert_eq!(tried(&raw(9, 16, 1, 1, &[])), Err(2));
         assert_eq!(tried(&raw(9, 16, 0, 1, &[0])), Err(2));
         assert_eq!(tried(&raw(9, 32, 0, 1, &[])), Err(1));
-        assert_eq!(tried(&raw(8, 32, 1, 129, &[0])), Err(3));
+        assert_eq!(tried(&raw(8, 32, 1, 193, &[0])), Err(3));
+        assert_eq!(tried(&raw(8, 32, 1, 192, &[0])), Err(4));
         assert_eq!(tried(&raw(8, 32, 1, 1, &[1])), Err(4));
         assert_eq!(tried(&raw(9, 32, 1, 1, &[1, 1])), Err(4));
         assert_eq!(tried(&raw(10, 32, 2, 2, &[0xc1, 0xc0])), Err(5));
@@ -932,19 +959,21 @@ fn string_for_tries_the_matrix_then_the_row_then_room() {
 /// is set in the first column alone, where a 1 and then zeros do.
 #[test]
 fn string_for_goes_to_the_last_column() {
-    for columns in [2, 8, 31, 32, 33, 63, 64, 65, 66, 97, 127, 128usize] {
+    for columns in [
+        2, 8, 31, 32, 33, 63, 64, 65, 66, 97, 127, 128, 129, 191, 192usize,
+    ] {
         let (first, last) = (
             format!("1{}", "0".repeat(columns - 1)),
             format!("{}1", "0".repeat(columns - 1)),
         );
         let mut string = vec![0x00; columns.div_ceil(8)];
         assert_eq!(
-            string_for(&file_of(&[&last]), 0, 16),
+            string_for(&file_of(&[&last]), 0, 24),
             Ok(Some(string.clone()))
         );
         string[0] = 0x80;
         let file = file_of(&[&first, &last]);
-        assert_eq!(string_for(&file, 1, 16), Ok(Some(string)));
-        assert_eq!(string_for(&file, 0, 16).unwrap().unwrap()[0], 0x00);
+        assert_eq!(string_for(&file, 1, 24), Ok(Some(string)));
+        assert_eq!(string_for(&file, 0, 24).unwrap().unwrap()[0], 0x00);
     }
 }

@@ -157,18 +157,19 @@ fn checks_of_a_matrix_header_come_in_their_order() {
     matrix_is_refused(&record(&[9, 16], &[]), 2);
     matrix_is_refused(&record(&[9, 16, 0], &[0]), 2);
     matrix_is_refused(&record(&[9, 16, 1, 1], &[]), 2);
-    matrix_is_refused(&record(&[65_535, 16, 0, 129], &[0xff; 12]), 2);
+    matrix_is_refused(&record(&[65_535, 16, 0, 193], &[0xff; 12]), 2);
     // 1 before 3.
     matrix_is_refused(&record(&[9, 32, 0], &[]), 1);
     matrix_is_refused(&record(&[9, 32, 129], &[0]), 1);
-    matrix_is_refused(&record(&[9, 32, 0, 129], &[]), 1);
-    matrix_is_refused(&record(&[65_535, 32, 0, 129], &[0xff; 12]), 1);
+    matrix_is_refused(&record(&[9, 32, 0, 193], &[]), 1);
+    matrix_is_refused(&record(&[65_535, 32, 0, 193], &[0xff; 12]), 1);
     // 2 before 3, with nothing short.
-    matrix_is_refused(&record(&[9, 16, 0, 129], &[0xff]), 2);
+    matrix_is_refused(&record(&[9, 16, 0, 193], &[0xff]), 2);
     // 3 before 4.
     matrix_is_refused(&record(&[8, 32, 0, 1], &[0xff]), 3);
-    matrix_is_refused(&record(&[8, 32, 1, 129], &[0xff]), 3);
+    matrix_is_refused(&record(&[8, 32, 1, 193], &[0xff]), 3);
     matrix_is_refused(&record(&[8, 32, 1, 1], &[0xff]), 4);
+    matrix_is_refused(&record(&[8, 32, 1, 192], &[0xff]), 4);
 }
 
 /// Each check of a program's header with the next one, and with all of them.
@@ -179,15 +180,16 @@ fn checks_of_a_program_header_come_in_their_order() {
     // 2 before 1 for under 14 bytes.
     program_is_refused(&record(&[14, 32], &[]), 2);
     program_is_refused(&record(&[14, 32, 1, 1, 1, 0], &[0]), 2);
-    program_is_refused(&record(&[15, 32, 0, 129, 9, 0], &[0]), 2);
+    program_is_refused(&record(&[15, 32, 0, 193, 9, 0], &[0]), 2);
     // 1 before 3.
     program_is_refused(&record(&[14, 16, 0], &[]), 1);
-    program_is_refused(&record(&[14, 16, 1_025, 129, 9, 0], &[0]), 1);
-    program_is_refused(&record(&[15, 16, 0, 129, 9, 0], &[0xff]), 1);
+    program_is_refused(&record(&[14, 16, 1_025, 193, 9, 0], &[0]), 1);
+    program_is_refused(&record(&[15, 16, 0, 193, 9, 0], &[0xff]), 1);
     // 2 before 3, with nothing short.
-    program_is_refused(&record(&[15, 32, 0, 129, 9, 0, 65_535], &[]), 2);
+    program_is_refused(&record(&[15, 32, 0, 193, 9, 0, 65_535], &[]), 2);
     // 3 before 4.
     program_is_refused(&record(&[15, 16, 0, 1, 1, 0, 0], &[]), 3);
+    program_is_refused(&record(&[15, 16, 1, 193, 1, 0, 0], &[]), 3);
     program_is_refused(&record(&[15, 16, 1, 1, 9, 0, 0], &[]), 3);
     program_is_refused(&record(&[15, 16, 1, 1, 1, 0, 0], &[]), 4);
 }

@@ -4,7 +4,7 @@
 use reference::compiler::{compile, translate};
 use reference::cumulative::{export, import, lookup, table_of};
 use reference::draws::{draw, draw_signed};
-use reference::extremes::longest_program;
+use reference::extremes::{longest_program, longest_program_of};
 use reference::lanes::{drawn, samples, signed_samples, slice};
 use reference::lent;
 use reference::machine::{resume, start};
@@ -13,7 +13,7 @@ use reference::natural::Natural;
 use reference::program::{self, Operation};
 use reference::random::{self, Random};
 use reference::record::{pack, unpack};
-use reference::tables::{document_001, document_002, document_004};
+use reference::tables::{document_001, document_002, document_002_fine, document_004};
 use reference::walk::{place_after, spent, used_by_all, walk, walk_bits, Place};
 use reference::wanted::string_for;
 use reference::weights::build;
@@ -653,15 +653,22 @@ fn strings_by_sums_are_right(matrix: &Matrix) -> usize {
 #[test]
 fn strings_for_the_rows_of_large_matrices() {
     assert_eq!(strings_by_sums_are_right(&document_002()), 5);
-    for matrix in [document_001(), document_004(), longest_program()] {
+    for matrix in [
+        document_001(),
+        document_002_fine(),
+        document_004(),
+        longest_program(),
+    ] {
         assert_eq!(strings_by_sums_are_right(&matrix), 0);
     }
     let mut random = Random::new(33);
     for either in [false, true] {
-        let parts = random::matrix_of_parts(&mut random, 128, 128, either);
-        strings_by_sums_are_right(&parts);
-        let by_columns = random::matrix_by_columns(&mut random, 128, 128, either);
-        strings_by_sums_are_right(&by_columns);
+        for columns in [128, 192] {
+            let parts = random::matrix_of_parts(&mut random, 128, columns, either);
+            strings_by_sums_are_right(&parts);
+            let by_columns = random::matrix_by_columns(&mut random, 128, columns, either);
+            strings_by_sums_are_right(&by_columns);
+        }
     }
 }
 
@@ -949,19 +956,25 @@ fn values_of_random_lists() {
     }
 }
 
-/// Compiled programs are accepted, within the limits, and shorter than the bound of 962
-/// instructions a column.
+/// Compiled programs are accepted, within the limits, and no longer than the bound of 962
+/// instructions a column, and 17 more.
 #[test]
 fn compiled_programs_are_sound() {
     let mut random = Random::new(16);
-    let longest = longest_program();
-    assert_eq!(translate(&longest).header.count, 116_941);
+    let longest = [longest_program_of(128), longest_program()];
+    let counts = longest
+        .each_ref()
+        .map(|matrix| translate(matrix).header.count);
+    assert_eq!(counts, [116_941, 178_509]);
     let many = (0..40).map(|_| random::any_matrix(&mut random));
-    for matrix in many.chain([longest]) {
+    let full =
+        [true, false].map(|few| random::matrix_by_columns(&mut Random::new(36), 128, 192, few));
+    for matrix in many.chain(longest).chain(full).chain([document_002_fine()]) {
         let translated = translate(&matrix);
         let file = translated.encode();
         assert_eq!(file.len(), translated.length());
         assert_eq!(program::decode(&file), Ok(translated.clone()));
+        assert_eq!(translated.header.inputs, matrix.columns);
         assert!(translated.header.count <= 17 + 962 * matrix.columns);
     }
 }
@@ -993,7 +1006,7 @@ fn draws_are_walks() {
 #[test]
 fn slicing_transposes() {
     let mut random = Random::new(18);
-    for columns in 1..=128 {
+    for columns in 1..=192 {
         let strings = random::packed_strings(&mut random, columns, 64);
         let words = slice(columns, &strings, columns).unwrap();
         for (lane, string) in strings.chunks(columns.div_ceil(8)).enumerate() {

@@ -557,7 +557,7 @@ fn strings_for_rows_of_one_column() {
 /// met first, and 1..11 alone row 0. With the rows exchanged it is 1..10 that hits the 1.
 #[test]
 fn strings_for_rows_that_one_string_hits() {
-    for columns in [1, 2, 3, 7, 8, 9, 63, 64, 65, 127, 128] {
+    for columns in [1, 2, 3, 7, 8, 9, 63, 64, 65, 127, 128, 129, 191, 192] {
         let zeros = "0".repeat(columns - 1);
         let (one, ones) = (format!("{zeros}1"), "1".repeat(columns));
         let zero = format!("{zeros}0");
@@ -577,7 +577,7 @@ fn strings_for_rows_that_one_string_hits() {
 /// that the string that spells s hits row 127 - s.
 #[test]
 fn strings_for_rows_of_the_last_column() {
-    for columns in [7, 8, 9, 16, 65, 128] {
+    for columns in [7, 8, 9, 16, 65, 128, 129, 192] {
         let one = format!("{}1", "0".repeat(columns - 1));
         let spelled = |v: usize| Some(format!("{:0columns$b}", 127 - v));
         let strings: Vec<_> = (0..128).map(spelled).collect();

@@ -2,7 +2,7 @@
 """Compares the exact table maker of examples/ with another computation of the same tables: each exponential by itself, in decimal numbers
 of 160 digits. File and message must be the same, byte for byte, for tables and for refusals.
 
-usage: gaussian.py TABLE COARSE    TABLE is the program; COARSE the same program with 128 bits behind the point
+usage: gaussian.py TABLE COARSE    TABLE is the program; COARSE the same program with 192 bits behind the point
 """
 import random
 import subprocess
@@ -20,10 +20,13 @@ CASES = [
     ("3.3", 128), ("8.5", 128), ("9.74", 128), ("1.8205", 72), ("13/2", 128), ("1/3", 128), ("0.0625", 128), ("1/16", 1), ("006.50", 8),
     ("3.14159265358979323846264338327950288420", 128), ("1000000000000000000/300000000000000001", 128),
     ("2", 2), ("2", 1), ("12", 85), ("12", 86), ("12", 128), ("20", 34), ("20", 35), ("50", 10), ("127.99", 8), ("127.99", 9),
+    ("6.15543", 129), ("6.15543", 136), ("6.15543", 160), ("6.15543", 191), ("6.15543", 192), ("0.8", 129), ("0.8", 192), ("2", 192),
+    ("7.91", 192), ("7.92", 192), ("8.68", 160), ("8.69", 160), ("9.70", 129), ("9.71", 129), ("13/2", 191), ("1/3", 192), ("1/16", 192),
+    ("3.14159265358979323846264338327950288420", 192), ("127.99", 192),
 ]  # fmt: skip
 RANGE = [("0", "below 1/16"), ("0.0624", "below 1/16"), ("128", "not below 128"), ("1/0", "not below 128"), ("900000", "not below 128")]
 NO_SIGMA = ["", "-1", "+1", "6,5", "6.", ".5", "1e1", "1/", "/2", "1/2/3", "1.5/2", " 6", "6 ", "0x6", "0" * 40 + "2"]
-NO_COLUMNS = ["", "0", "129", "-1", "1.5", "12x", "18446744073709551617"]
+NO_COLUMNS = ["", "0", "193", "200", "-1", "1.5", "12x", "18446744073709551617"]
 
 
 @lru_cache(maxsize=None)
@@ -82,13 +85,15 @@ def drawn():
     some = random.Random(615543)
     for _ in range(60):
         yield f"{some.randrange(7000, 980000) / 100000:.5f}", some.choice([128, 128, some.randrange(1, 128)])
+    for _ in range(30):
+        yield f"{some.randrange(7000, 800000) / 100000:.5f}", some.choice([192, 192, some.randrange(129, 192)])
 
 
 def check_coarse(program):
     """With too few bits a row is refused or right, never wrong. Both must happen."""
     refused = given = 0
-    for sigma in ["0.8", "2", "6.15543", "9.7"]:
-        for columns in range(90, 129):
+    for sigma in ["0.8", "2", "6.15543", "7.9"]:
+        for columns in range(154, 193):
             got = run(program, sigma, columns)
             if "is not certain; raise FRACTION_LIMBS" in got[1] and not got[0]:
                 refused += 1
@@ -107,7 +112,7 @@ def main():
         same(program, sigma, columns, expected(sigma, columns))
     refusals = [(s, 128, f"sigma {s}: {why}\n") for s, why in RANGE]
     refusals += [(s, 128, f"sigma {s}: not a number such as 6.15543 or 13/2 of at most 40 characters\n") for s in NO_SIGMA]
-    refusals += [("2", c, "the columns are not 1 to 128\n") for c in NO_COLUMNS]
+    refusals += [("2", c, "the columns are not 1 to 192\n") for c in NO_COLUMNS]
     for sigma, columns, message in refusals:
         same(program, sigma, columns, (b"", message))
     given, doubtful = check_coarse(coarse)

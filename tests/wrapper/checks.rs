@@ -1,5 +1,5 @@
-//! Every function of include/corkhollow.rs on 01's example, the rows 10, 01, 01, on one row 1 of one column, or on numbers. What it must
-//! answer is worked out by hand from 01 and 02, so that this needs nothing but `core`.
+//! Every function of include/corkhollow.rs on 01's example, the rows 10, 01, 01, on one row 1 of one column, or on numbers; those that take
+//! columns also on the most. What it must answer is worked out by hand from 01 and 02, so that this needs nothing but `core`.
 
 use crate::corkhollow::{
     self, Header, Refusal, Run, Walk, COMBINED_MISS, LANES, MISS, SIGNED_MISS,
@@ -59,6 +59,7 @@ pub fn all() -> Checked {
     wide_bells()?;
     cumulative_tables()?;
     looked_up()?;
+    the_most_columns()?;
     must("refusal", a_refusal() == Err(Refusal(1)))
 }
 
@@ -322,4 +323,56 @@ fn looked_up() -> Checked {
         "lookup",
         corkhollow::lookup(&[0, 4], 2, 1) == Err(Refusal(16)),
     )
+}
+
+/// 02, order 8: one row of 192 columns, set in the last.
+const LAST_OF_192: [u8; 32] = [
+    32, 0, 32, 0, 1, 0, 192, 0, 0, 0, 0, 0, 0, 0, 0, 0, 0, 0, 0, 0, 0, 0, 0, 0, 0, 0, 0, 0, 0, 0,
+    0, 1,
+];
+
+/// All zeros hit the row in the last column, and a 1 and then zeros miss; 193 columns are 3.
+fn the_most_columns() -> Checked {
+    let (columns, inputs) = (corkhollow::COLUMNS, corkhollow::INPUTS);
+    must("limits", (columns, inputs) == (192, 192))?;
+    must("limits", corkhollow::INSTRUCTIONS == 262_144)?;
+    let (mut entries, mut file) = ([0; 192], [7; 33]);
+    entries[191] = 1;
+    let length = corkhollow::write(1, 192, &entries, &mut file);
+    let same = file[..32] == LAST_OF_192 && file[32] == 7;
+    must("write", length == Ok(32) && same)?;
+    for (first, row) in [(0x00, Some(0)), (0x80, None)] {
+        let mut string = [0; 24];
+        string[0] = first;
+        let walked = corkhollow::walk(&LAST_OF_192, &string);
+        must("walk", walked == Ok(Walk { row, used: 192 }))?;
+    }
+    let total = corkhollow::spent(&LAST_OF_192, &[0; 64 * 24]);
+    must("spent", total == Ok(12_288))?;
+    let mut string = [7; 24];
+    let found = corkhollow::string_for(&LAST_OF_192, 0, &mut string);
+    must("string_for", found == Ok(true) && string == [0; 24])?;
+    let built = corkhollow::build(&[1], 193, false, &mut [0; 64]);
+    must("build", built == Err(Refusal(3)))?;
+    the_most_columns_drawn()
+}
+
+/// Lane 1 alone misses.
+fn the_most_columns_drawn() -> Checked {
+    // a column has at most six instructions of at most ten bytes
+    let mut program = [0; 192 * 60 + 64];
+    let length = corkhollow::compile(&LAST_OF_192, &mut program);
+    let length = length.map_err(|_| "compile")?;
+    let mut strings = [0; 64 * 24];
+    strings[24] = 0x80;
+    let (mut samples, mut gives) = ([7; LANES], [0; LANES]);
+    gives[1] = MISS;
+    let drawn = corkhollow::draw(&program[..length], &strings, &mut samples);
+    must("draw", drawn == Ok(()) && samples == gives)?;
+    let (mut words, mut wanted) = ([7; 193], [0; 193]);
+    (wanted[0], wanted[192]) = (2, 7);
+    let sliced = corkhollow::slice(192, &strings, &mut words);
+    must("slice", sliced == Ok(()) && words == wanted)?;
+    let wider = corkhollow::slice(193, &[0; 64 * 25], &mut words);
+    must("slice", wider == Err(Refusal(3)) && words == wanted)
 }

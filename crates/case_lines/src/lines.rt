@@ -6,13 +6,13 @@ use libc::STDIN_FILENO;
 use libc::STDOUT_FILENO;
 
 // Room for the longest line, with its end.
-pub const LINE: usize = 8192;
+pub const LINE: usize = 12_288;
 
 // No program is given more lines than these.
 pub const LINES: usize = 4096;
 
 // Bytes of the longest program that a line makes, with some to spare.
-pub const PROGRAM: usize = 1_310_800;
+pub const PROGRAM: usize = 2_621_520;
 
 // Room for the bytes that a line gives, or that are lent for a matrix file.
 pub const BYTES: usize = 4160;

@@ -21,7 +21,7 @@ use Rattle.programs.specs.Reading.{length-instruction, header-long}
 use Rattle.programs.specs.Inverse.{decode-written, header-written}
 use Rattle.programs.specs.declared.description.Program.{Program}
 use Rattle.programs.specs.declared.description.Instruction.{Instruction}
-use Rattle.checker.specs.Checks.{also, instructionOf, codeOf, nothing, checkOf}
+use Rattle.checker.specs.Checks.{also, instructionOf, codeOf, nothing, checkUnder, checkOf}
 use Rattle.checker.specs.Standing.{InRange}
 use Rattle.checker.specs.Operands.{range-holds}
 
@@ -143,5 +143,5 @@ module _ (p : Program) (is : List Instruction) (s : Sound p is) where
       code-accepted is p none nothing nothing (λ r x. absurd x) (λ o l. inl (s .all-set o l)) (s .in-range) (s .written))
 
   pub accepted : checkOf (programFile p is) ≡ gives (record { program = p; instructions = is })
-  unfolding checkOf programFile
+  unfolding checkUnder programFile
   accepted = rw (header-written p (codeBytes is) (s .limits), behind-header)

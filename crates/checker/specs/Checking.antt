@@ -15,7 +15,7 @@ use Rattle.programs.specs.Header.{header-length, headerOf}
 use Rattle.programs.specs.Reading.{within-means}
 use Rattle.programs.specs.declared.description.Program.{Program}
 use Rattle.programs.specs.declared.description.Instruction.{Instruction}
-use Rattle.checker.specs.Checks.{Code, instructionOf, codeOf, nothing, checkOf}
+use Rattle.checker.specs.Checks.{Code, instructionOf, codeOf, nothing, checkUnder, checkOf}
 use Rattle.checker.specs.Operands.{flagged, Flags, admit-room}
 use Rattle.checker.specs.GateRuns.{restOf, Passes, mapped-after, rest-more}
 
@@ -103,13 +103,13 @@ module _ (file : List ℕ) (p : Program) where
 -- ---- header, then body
 module _ (file : List ℕ) where
   pub check-refused : (k : ℕ) → refused k ≡ headerOf file → refused k ≡ mapped (λ c. c .program) (checkOf file)
-  unfolding checkOf
+  unfolding checkUnder
   check-refused k e = rw (← e)
 
   module _ (p : Program) (e : gives p ≡ headerOf file) where
     pub check-body : (o : Outcome Program) → o ≡ wholeOf file p →
         o ≡ mapped (λ c. c .program) (checkOf file)
-    unfolding checkOf restOf
+    unfolding checkUnder restOf
     check-body o q =
         q ∙ (sym (mapped-after p (λ (c : Code). c .program) (λ (is : List Instruction). record { program = p; instructions = is })
         (λ is. refl) (codeOf (p .count) p nothing nothing (drop header-length file))) ∙ rw (← e))
@@ -118,7 +118,7 @@ module _ (file : List ℕ) where
 pub check-says : (file : List ℕ) (c : Code) → checkOf file ≡ gives c →
     (headerOf file ≡ gives (c .program)) ×
     (codeOf (c .program .count) (c .program) nothing nothing (drop header-length file) ≡ gives (c .instructions))
-unfolding checkOf
+unfolding checkUnder
 check-says file c e =
     let c1 = bound (headerOf file) _ c e in
     let c2 = bound (codeOf (c1 .0 .count) (c1 .0) nothing nothing (drop header-length file)) _ c (c1 .2) in

@@ -7,8 +7,9 @@ use lib.ListN.{length, drop}
 use Rattle.laws.specs.Sums.{any}
 use Rattle.laws.specs.Every.{every}
 use Rattle.laws.specs.Outcome.{Outcome, gives, refuse, _>>_, _>>=_}
+use Rattle.programs.specs.Limits.{most-inputs, most-instructions}
 use Rattle.programs.specs.Instructions.{uses, lengthOf, decodeOf}
-use Rattle.programs.specs.Header.{header-length, headerOf}
+use Rattle.programs.specs.Header.{header-length, headerUnder}
 use Rattle.programs.specs.declared.description.Program.{Program}
 use Rattle.programs.specs.declared.description.Instruction.{Instruction}
 
@@ -57,8 +58,12 @@ bodyOf file p = do
   is ← codeOf (p .count) p nothing nothing (drop header-length file)
   gives (record { program = p; instructions = is })
 
--- a program file: header first, then its instructions
-unfoldable pub checkOf : List ℕ → Outcome Code
-checkOf file = do
-  p ← headerOf file
+-- a program file, where at most `wide` inputs and `long` instructions are allowed: header first, then its instructions
+unfoldable pub checkUnder : ℕ → ℕ → List ℕ → Outcome Code
+checkUnder wide long file = do
+  p ← headerUnder wide long file
   bodyOf file p
+
+-- at the limits of a program
+abbrev pub checkOf : List ℕ → Outcome Code
+checkOf = checkUnder most-inputs most-instructions

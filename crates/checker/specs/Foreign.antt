@@ -22,7 +22,7 @@ use Rattle.programs.specs.Inverse.{decode-written, header-written, header-reads
 use Rattle.programs.specs.Foreign.{Short, headerShortFirst, header-changed, decode-cut}
 use Rattle.programs.specs.declared.description.Program.{Program}
 use Rattle.programs.specs.declared.description.Instruction.{Instruction}
-use Rattle.checker.specs.Checks.{Code, also, inRange, instructionOf, codeOf, nothing, bodyOf, checkOf}
+use Rattle.checker.specs.Checks.{Code, also, inRange, instructionOf, codeOf, nothing, bodyOf, checkUnder, checkOf}
 use Rattle.checker.specs.Operands.{range-holds}
 use Rattle.checker.specs.Checking.{check-says}
 use Rattle.checker.specs.Accepting.{Fits, Ready, none, Sound, also-holds}
@@ -38,7 +38,7 @@ checkShortFirst file = do
 module _ (file : List ℕ) where
   -- of a program file: 1 became 2 where it is foreign and short, and every other file is answered as before
   pub check-changed : Changed (Foreign header-kind file × Short file) 1 2 (checkShortFirst file) (checkOf file)
-  unfolding checkShortFirst checkOf
+  unfolding checkShortFirst checkUnder
   check-changed = changed-then (header-changed file) (bodyOf file)
 
   -- so the files that are answered as before are exactly those that are not both
@@ -48,15 +48,15 @@ module _ (file : List ℕ) where
 -- ---- the order, in plain words
 module _ (file : List ℕ) where
   pub check-few : length file < 4 → checkOf file ≡ refused 1
-  unfolding checkOf
+  unfolding checkUnder
   check-few h = rw (← (header-few file h))
 
   pub check-foreign : Foreign header-kind file → checkOf file ≡ refused 2
-  unfolding checkOf
+  unfolding checkUnder
   check-foreign f = rw (← (header-foreign file (f .0) (f .1)))
 
   pub check-short : 4 ≤ length file → fieldOf file 2 ≡ header-kind → Short file → checkOf file ≡ refused 1
-  unfolding checkOf
+  unfolding checkUnder
   check-short a k s = rw (← (header-short file a k s))
 
 -- ---- an accepted program file is 1 wherever it is cut
@@ -107,7 +107,7 @@ code-cut (i ∷ is) p W written set w f e n h =
 -- behind a header that is whole
 module _ (p : Program) (is : List Instruction) (s : Sound p is) where
   sound-cut : (n : ℕ) → n < length (codeBytes is) → checkOf (headerBytes p ++ take n (codeBytes is)) ≡ refused 1
-  unfolding checkOf
+  unfolding checkUnder
   sound-cut n h =
       rw (
         header-written p (take n (codeBytes is)) (s .limits),

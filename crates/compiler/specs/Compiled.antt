@@ -8,6 +8,7 @@ use lib.Dec.{ltb}
 use lib.ListN.{length}
 use Rattle.laws.specs.Lists.{blocks}
 use Rattle.laws.specs.Outcome.{gives, passed, bound, gives-inj}
+use Rattle.fields.specs.Limits.{most-columns}
 use Rattle.files.specs.Matrix.{Matrix, Accepted, bit}
 use Rattle.files.specs.Files.{matrixOf}
 use Rattle.files.specs.RoundTrip.{read-accepted}
@@ -15,7 +16,7 @@ use Rattle.programs.specs.Limits.{most-registers, most-inputs, most-outputs, mo
 use Rattle.programs.specs.Reading.{among-limits}
 use Rattle.checker.specs.Checks.{Code, checkOf}
 use Rattle.checker.specs.Accepting.{Sound, accepted}
-use Rattle.compiler.specs.Translation.{rowBits, begin, column, translationOf, translation, program, compiled, compileOf}
+use Rattle.compiler.specs.Translation.{rowBits, begin, column, translation, program, compiled, compileUnder, compileOf}
 use Rattle.compiler.specs.Width.{few-bits}
 use Rattle.compiler.specs.Room.{accepted-roomy}
 use Rattle.compiler.specs.Ranges.{in-range, all-set}
@@ -38,6 +39,14 @@ module _ (M : Matrix) where
 
 -- ---- the check passes
 module _ (M : Matrix) (a : Accepted M) where
+  -- 02, order 8: at most 962 instructions a column and 17 more, so never more than are allowed
+  pub few-a-column : program M .count ≤ 962 * M .columns + 17
+  unfolding program translation
+  few-a-column = short (rowBits (M .rows)) (M .rows) (M .columns) (bit M) (few-bits (M .rows) (a .few-rows)) (a .some-rows) (a .few-rows)
+
+  pub few-in-all : program M .count ≤ 962 * most-columns + 17
+  few-in-all = omega (arith, few-a-column, a .few-columns)
+
   pub sound : Sound (program M) (translation M)
   unfolding program translation
   sound =
@@ -51,8 +60,7 @@ module _ (M : Matrix) (a : Accepted M) where
               among-limits most-inputs (M .columns) (a .some-columns) (a .few-columns),
               among-limits most-outputs (1 + k) (omega arith) (omega arith),
             )
-            (le-leb (length (translationOf k (M .rows) (M .columns) (bit M))) most-instructions
-            (omega (arith, short k (M .rows) (M .columns) (bit M) bits (a .some-rows) (a .few-rows) (a .few-columns))));
+            (le-leb (program M .count) most-instructions (omega (arith, few-in-all)));
         counted = refl;
         in-range = in-range k (M .rows) (M .columns) (bit M) roomy;
         written = written-first k (M .rows) (M .columns) (bit M) roomy;
@@ -66,7 +74,7 @@ module _ (M : Matrix) (a : Accepted M) where
 -- what compiling a file lays down: the program of its matrix, within the buffer
 pub compile-lays : (file code : List ℕ) (room : ℕ) → compileOf file room ≡ gives code →
     (M : Matrix) × (matrixOf file ≡ gives M) × (code ≡ compiled M) × (length code ≤ room)
-unfolding compileOf
+unfolding compileUnder
 compile-lays file code room e =
     let (M, m, t) = bound (matrixOf file) _ code e in
     let (fits, is) = passed 13 (ltb room (length (compiled M))) (gives (compiled M)) code t in
@@ -84,5 +92,5 @@ compile-accepted file code room M e c =
 -- and a matrix file compiles wherever the program of its matrix has room
 pub compile-fits : (file : List ℕ) (room : ℕ) (M : Matrix) → matrixOf file ≡ gives M → length (compiled M) ≤ room →
     compileOf file room ≡ gives (compiled M)
-unfolding compileOf
+unfolding compileUnder
 compile-fits file room M e h = rw (e, le-ltb room (length (compiled M)) h)

@@ -23,7 +23,7 @@ use Rattle.programs.specs.Header.{header-length, headerBytes, writeHeaderOf, co
 use Rattle.programs.specs.declared.description.Program.{Program}
 use Rattle.programs.specs.declared.description.Instruction.{Instruction}
 use Rattle.compiler.specs.Translation.{rowBits, begin, marks, end, column, liveBefore, translationOf}
-use Rattle.compiler.specs.Translation.{translation, program, compiled, compileOf}
+use Rattle.compiler.specs.Translation.{translation, program, compiled, compileUnder, compileOf}
 use Rattle.compiler.specs.Room.{Roomy, accepted-roomy}
 use Rattle.compiler.specs.Size.{size, whole-length, whole-size, whole-bytes}
 use Rattle.compiler.specs.Compiled.{sound, compile-fits}
@@ -173,7 +173,7 @@ program-written {bytes} {m} {n} {k} {count} buf {head = head} {now = now} s l q 
 
 -- ---- the ways through the checks
 pub compile-refused : (file : List ℕ) (room n : ℕ) → refused n ≡ mapped sizes (matrixOf file) → compileOf file room ≡ refused n
-unfolding compileOf
+unfolding compileUnder
 compile-refused file room n e = rw (mapped-refused sizes (matrixOf file) n e)
 
 module _ (file : List ℕ) {bytes : List ℕ} {m n : ℕ} (behind : bytes ≡ drop 8 file)
@@ -200,7 +200,7 @@ module _ (file : List ℕ) {bytes : List ℕ} {m n : ℕ} (behind : bytes ≡ dr
 
   module _ {k count long : ℕ} (room : ℕ) (s : Measured bytes m n k count long) where
     pub compile-short : room < long → compileOf file room ≡ refused 13
-    unfolding compileOf
+    unfolding compileUnder
     compile-short h = rw (checked-matrix, lt-ltb room (length (compiled (packedMatrix bytes m n))) (omega (arith, s .all)))
 
     pub compile-gives : long ≤ room → compileOf file room ≡ gives (compiled (packedMatrix bytes m n))

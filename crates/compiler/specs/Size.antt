@@ -173,10 +173,10 @@ few-ones k m h l =
       all-ones 7,
     )
 
--- at most 962 instructions a column, 123,153 in all
-pub short : (k m n : ℕ) (bit : ℕ → ℕ → ℕ) → k ≤ 7 → 1 ≤ m → m ≤ 128 → n ≤ 128 →
-    length (begin k ++ blocks n (column k m bit) ++ end k) ≤ 123153
-short k m n bit h a b c =
+-- at most 962 instructions a column and 17 more, for every number of columns
+pub short : (k m n : ℕ) (bit : ℕ → ℕ → ℕ) → k ≤ 7 → 1 ≤ m → m ≤ 128 →
+    length (begin k ++ blocks n (column k m bit) ++ end k) ≤ 962 * n + 17
+short k m n bit h a b =
     omega (
       arith,
       whole-length k m n bit,

@@ -7,7 +7,8 @@ use lib.ListN.{length}
 use Rattle.laws.specs.Lists.{blocks}
 use Rattle.laws.specs.Outcome.{Outcome, gives, refuse, _>>_, _>>=_}
 use Rattle.files.specs.Matrix.{Matrix, bit, ones-in}
-use Rattle.files.specs.Files.{matrixOf}
+use Rattle.fields.specs.Limits.{most-columns}
+use Rattle.files.specs.Files.{matrixUnder}
 use Rattle.programs.specs.Header.{programFile}
 use Rattle.programs.specs.declared.description.Program.{Program}
 use Rattle.programs.specs.declared.description.Instruction.{Instruction}
@@ -125,8 +126,12 @@ unfoldable pub compiled : Matrix → List ℕ
 compiled M = programFile (program M) (translation M)
 
 -- compiling a matrix file into a buffer of `room` bytes: the matrix's checks, then 13 for the whole program, which is laid down
-unfoldable pub compileOf : List ℕ → ℕ → Outcome (List ℕ)
-compileOf file room = do
-  M ← matrixOf file
+unfoldable pub compileUnder : ℕ → List ℕ → ℕ → Outcome (List ℕ)
+compileUnder most file room = do
+  M ← matrixUnder most file
   refuse 13 (ltb room (length (compiled M)))
   gives (compiled M)
+
+-- at the limit of columns
+abbrev pub compileOf : List ℕ → ℕ → Outcome (List ℕ)
+compileOf = compileUnder most-columns

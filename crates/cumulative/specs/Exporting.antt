@@ -15,7 +15,7 @@ use Rattle.fields.specs.Fields.{bitOf, width}
 use Rattle.files.specs.Matrix.{Matrix, Sizes, sizes, bit, p, total}
 use Rattle.files.specs.Files.{matrixOf}
 use Rattle.files.specs.Checks.{matrix-read, unpacked-bit}
-use Rattle.cumulative.specs.Tables.{Table, Extent, extent, most-bits, sums, exported, exportOf}
+use Rattle.cumulative.specs.Tables.{Table, Extent, extent, most-bits, sums, exported, exportUnder, exportOf}
 
 -- row v of rows of n bits that are packed one after another, as a number
 unfoldable pub rowAt : List ℕ → ℕ → ℕ → ℕ
@@ -71,19 +71,19 @@ rows-small file s e h =
 -- ---- the checks, after those of the file gave its sizes
 module _ (file : List ℕ) (room : ℕ) where
   pub export-refused : (k : ℕ) → refused k ≡ mapped sizes (matrixOf file) → exportOf file room ≡ refused k
-  unfolding exportOf
+  unfolding exportUnder
   export-refused k e = rw (mapped-refused sizes (matrixOf file) k e)
 
   -- a matrix of at most 63 columns, with room for its table, gives it
   pub export-room : (M : Matrix) → matrixOf file ≡ gives M → M .columns ≤ most-bits → M .rows + 1 ≤ room →
       exportOf file room ≡ gives (exported M)
-  unfolding exportOf
+  unfolding exportUnder
   export-room M e h l = rw (e, le-ltb most-bits (M .columns) h, le-ltb room (M .rows + 1) l)
 
   -- and of no other matrix is there a table
   pub export-says : (t : Table) → exportOf file room ≡ gives t → (M : Matrix) → matrixOf file ≡ gives M →
       (M .columns ≤ most-bits) × (t ≡ exported M)
-  unfolding exportOf
+  unfolding exportUnder
   export-says t x M e =
       let c3 = passed 3 (ltb most-bits (M .columns)) _ t (rw e at x) in
       let c13 = passed 13 (ltb room (M .rows + 1)) _ t (c3 .1) in
@@ -91,7 +91,7 @@ module _ (file : List ℕ) (room : ℕ) where
 
   module _ (s : Sizes) (e : gives s ≡ mapped sizes (matrixOf file)) where
     pub export-wide : most-bits < s .columns → exportOf file room ≡ refused 3
-    unfolding exportOf
+    unfolding exportUnder
     export-wide h =
         let g = mapped-gives sizes (matrixOf file) s e in
         let wide = rw (← g .2) at (lt-ltb most-bits (s .columns) h) in
@@ -99,7 +99,7 @@ module _ (file : List ℕ) (room : ℕ) where
 
     module _ (h : s .columns ≤ most-bits) where
       pub export-short : room < s .rows + 1 → exportOf file room ≡ refused 13
-      unfolding exportOf
+      unfolding exportUnder
       export-short l =
           let g = mapped-gives sizes (matrixOf file) s e in
           let narrow = rw (← g .2) at (le-ltb most-bits (s .columns) h) in

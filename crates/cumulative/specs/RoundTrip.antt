@@ -16,7 +16,7 @@ use Rattle.files.specs.Files.{matrixFile, matrixOf}
 use Rattle.files.specs.Matrices.{equal-bits}
 use Rattle.files.specs.Writing.{length-file}
 use Rattle.files.specs.RoundTrip.{accepted-bits, read-accepted, read-write}
-use Rattle.cumulative.specs.Tables.{Table, most-bits, entry, rowsOf, difference, imported, importOf, sums, exportOf}
+use Rattle.cumulative.specs.Tables.{Table, most-bits, entry, rowsOf, difference, imported, importOf, sums, exportUnder, exportOf}
 use Rattle.cumulative.specs.Taken.{Cumulative, summed}
 use Rattle.cumulative.specs.Importing.{imported-bit, imported-row, imported-accepted, import-iff, import-is}
 use Rattle.cumulative.specs.Exporting.{export-room, export-says}
@@ -101,7 +101,7 @@ imported-sums T n ok =
 pub export-then-import : (file table : List ℕ) (room : ℕ) (t : Table) → ((i : ℕ) → getD file i 0 < 256) →
     exportOf file (length table) ≡ gives t → length file ≤ room →
     importOf (take (length (t .numbers)) (lay (t .numbers) table)) (t .columns) room ≡ gives file
-unfolding exportOf
+unfolding exportUnder
 export-then-import file table room t bytes e h =
     let b = bound (matrixOf file) _ t e in
     let M = b .0 in

@@ -9,9 +9,9 @@ use Rattle.laws.specs.Digits.{digit}
 use Rattle.laws.specs.Lists.{upto}
 use Rattle.laws.specs.Outcome.{Outcome, refused, gives, refuse, _>>_, _>>=_}
 use Rattle.fields.specs.Refusal.{numberOf}
-use Rattle.fields.specs.Limits.{outside}
+use Rattle.fields.specs.Limits.{most-columns, outside}
 use Rattle.files.specs.Matrix.{Matrix, tabled, p}
-use Rattle.files.specs.Files.{fileLength, matrixFile, matrixOf}
+use Rattle.files.specs.Files.{fileLength, matrixFile, matrixUnder}
 use Rattle.walk.specs.Walk.{Answer, sample, missed}
 use Rattle.cumulative.specs.declared.tables.Tried.{Tried}
 use Rattle.cumulative.specs.declared.tables.Tried.the-variants as Tried
@@ -92,12 +92,16 @@ abbrev pub exported : Matrix → Table
 exported M = record { numbers = sums M; columns = M .columns }
 
 -- exporting into a buffer of `room` numbers: the table that is laid down
-unfoldable pub exportOf : List ℕ → ℕ → Outcome Table
-exportOf file room = do
-  M ← matrixOf file
+unfoldable pub exportUnder : ℕ → List ℕ → ℕ → Outcome Table
+exportUnder most file room = do
+  M ← matrixUnder most file
   refuse 3 (ltb most-bits (M .columns))
   refuse 13 (ltb room (M .rows + 1))
   gives (exported M)
+
+-- at the limit of columns
+abbrev pub exportOf : List ℕ → ℕ → Outcome Table
+exportOf = exportUnder most-columns
 
 -- ---- lookup
 -- whether T[s] < r and r ≤ T[s+1]

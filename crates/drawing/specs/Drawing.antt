@@ -6,24 +6,31 @@ use lib.Dec.{ltb}
 use lib.IntN.{ℤ}
 use lib.ListN.{replicate}
 use Rattle.laws.specs.Outcome.{Outcome, refused, gives, refuse, _>>_, _>>=_}
+use Rattle.fields.specs.Limits.{most-columns}
 use Rattle.fields.specs.Refusal.{numberOf}
-use Rattle.programs.specs.Limits.{most-outputs}
-use Rattle.checker.specs.Checks.{checkOf}
-use Rattle.machine.specs.Runs.{startOf}
-use Rattle.lanes.specs.Slicing.{lanes, sliceOf}
+use Rattle.programs.specs.Limits.{most-inputs, most-outputs, most-instructions}
+use Rattle.checker.specs.Checks.{checkUnder, checkOf}
+use Rattle.machine.specs.Meaning.{wordGates}
+use Rattle.machine.specs.Runs.{startUnder}
+use Rattle.lanes.specs.Slicing.{lanes, sliceUnder}
 use Rattle.lanes.specs.Samples.{samplesOf, signedSamplesOf}
 use Rattle.drawing.specs.declared.Batch.{Batch}
 use Rattle.drawing.specs.declared.Batch.the-variants as Batch
 
 -- drawing into a buffer of `room` places, with a way of reading the outputs: the program's own refusals, 13 and 5 for the strings, 13 for
 -- the samples
-unfoldable pub drawnWith : {A : Type 0} → List ℕ → List ℕ → ℕ → (List ℕ → Outcome A) → Outcome A
-drawnWith program strings room read = do
-  c ← checkOf program
-  words ← sliceOf (c .program .inputs) strings (c .program .inputs)
+unfoldable pub drawnUnder : {A : Type 0} → ℕ → ℕ → ℕ → List ℕ → List ℕ → ℕ → (List ℕ → Outcome A) → Outcome A
+drawnUnder most wide long program strings room read = do
+  c ← checkUnder wide long program
+  words ← sliceUnder most (c .program .inputs) strings (c .program .inputs)
   refuse 13 (ltb room lanes)
-  e ← startOf program words (replicate (c .program .registers) 0) (replicate (c .program .outputs) 0) (c .program .count)
+  e ← startUnder wordGates wide long program words (replicate (c .program .registers) 0) (replicate (c .program .outputs) 0)
+      (c .program .count)
   read (e .state .outputs)
+
+-- at the limits of columns and of a program
+abbrev pub drawnWith : {A : Type 0} → List ℕ → List ℕ → ℕ → (List ℕ → Outcome A) → Outcome A
+drawnWith = drawnUnder most-columns most-inputs most-instructions
 
 -- drawing samples, and signed samples with a sign word
 abbrev pub drawOf : List ℕ → List ℕ → ℕ → Outcome (List ℕ)

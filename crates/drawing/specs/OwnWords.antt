@@ -20,14 +20,14 @@ use Rattle.programs.specs.Inverse.{header-reads}
 use Rattle.programs.specs.declared.description.Program.{Program}
 use Rattle.machine.specs.Meaning.{Gates, wordGates, exec-long}
 use Rattle.checker.specs.Checks.{Code, checkOf}
-use Rattle.machine.specs.Runs.{Ended, runOf, startOn, startOf}
+use Rattle.machine.specs.Runs.{Ended, runOf, startUnder, startOn, startOf}
 use Rattle.checker.specs.Checking.{check-refused, check-says}
 use Rattle.machine.specs.Unseen.{start-inputs, start-forgets-enough}
 use Rattle.machine.specs.Calls.{Room, Enough, cleared, start-is, admitted-gives}
 use Rattle.machine.specs.declared.runs.Run.{Run}
-use Rattle.lanes.specs.Slicing.{lanes, sliceOf, wordOf}
+use Rattle.lanes.specs.Slicing.{lanes, sliceUnder, sliceOf, wordOf}
 use Rattle.lanes.specs.Lanes.{cut}
-use Rattle.drawing.specs.Drawing.{drawnWith, batchOf, afterOwn, batched, few}
+use Rattle.drawing.specs.Drawing.{drawnUnder, drawnWith, batchOf, afterOwn, batched, few}
 use Rattle.drawing.specs.declared.Batch.{Batch}
 use Rattle.drawing.specs.declared.Batch.the-variants as Batch
 
@@ -91,7 +91,7 @@ module _ (program strings : List ℕ) (room : ℕ) (c : Code) (ok : checkOf prog
   batch-starts : (inputs registers outputs : List ℕ) → Room header inputs registers outputs →
       ((k : ℕ) → k < header .inputs → getD ws k 0 ≡ getD inputs k 0) →
       batchOf program strings room ≡ mapped outputsOf (startOf program inputs registers outputs (header .count))
-  unfolding drawnWith
+  unfolding drawnUnder
   batch-starts inputs registers outputs r same =
       rw (ok, sliced, le-ltb room lanes enough)
       (rw (start-agrees wordGates program c ok (header .count) ws _ _ inputs registers outputs own-room r same)
@@ -121,16 +121,16 @@ after-none program n p e = rw (mapped-gives (λ (c : Code). c .program) (checkOf
 
 -- slicing into words that are too many gives the same
 slice-any : (n : ℕ) (strings : List ℕ) (r : ℕ) → n ≤ r → sliceOf n strings n ≡ sliceOf n strings r
-unfolding sliceOf
+unfolding sliceUnder
 slice-any n strings r h = rw (le-ltb n n (omega arith), le-ltb r n h)
 
 batch-refuses : (program strings : List ℕ) (room k : ℕ) → checkOf program ≡ refused k → batchOf program strings room ≡ refused k
-unfolding drawnWith
+unfolding drawnUnder
 batch-refuses program strings room k e = rw e
 
 start-refuses : (program inputs registers outputs : List ℕ) (budget k : ℕ) → checkOf program ≡ refused k →
     startOf program inputs registers outputs budget ≡ refused k
-unfolding startOn
+unfolding startUnder
 start-refuses program inputs registers outputs budget k e = rw e
 
 -- ---- the ways of a batch on words of the engine's own
@@ -151,13 +151,13 @@ module _ (program strings : List ℕ) (room : ℕ) where
 
     pub batch-strings : (n k : ℕ) → refused n ≡ mapped length slices → refused k ≡ afterOwn program n →
         batchOf program strings room ≡ refused k
-    unfolding drawnWith afterOwn
+    unfolding drawnUnder afterOwn
     batch-strings n k s e =
         refused-after (checkOf program) _ n k (λ c ok. rw (slice-own c ok ∙ mapped-refused length slices n s)) e
 
     pub batch-short : (m k : ℕ) → gives m ≡ mapped length slices → room < lanes → refused k ≡ afterOwn program 13 →
         batchOf program strings room ≡ refused k
-    unfolding drawnWith afterOwn
+    unfolding drawnUnder afterOwn
     batch-short m k s h e =
         refused-after (checkOf program) _ 13 k (λ c ok. rw (slice-own c ok ∙ mapped-gives length slices m s .1, lt-ltb room lanes h)) e
 
@@ -240,7 +240,7 @@ module _ (program strings : List ℕ) (room : ℕ) where
 -- ---- a drawing is a batch, then its outputs read
 module _ {A : Type 0} (program strings : List ℕ) (room : ℕ) (read : List ℕ → Outcome A) where
   drawn-is : drawnWith program strings room read ≡ (batchOf program strings room >>= read)
-  unfolding drawnWith
+  unfolding drawnUnder
   drawn-is =
       bind-after (checkOf program) _ read _
       (λ c. bind-after (sliceOf (c .program .inputs) strings (c .program .inputs)) _ read _

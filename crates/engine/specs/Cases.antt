@@ -13,23 +13,24 @@ use Rattle.laws.specs.Lists.{blocks, upto}
 use Rattle.laws.specs.Outcome.{Outcome, refused, gives, mapped, _>>=_}
 use Rattle.fields.specs.Fields.{fieldOf, packedBit, padded, packed, spare}
 use Rattle.files.specs.Matrix.{bit, p, total, ones-in}
-use Rattle.files.specs.Files.{fileLength, headerBytes, matrixFile, sizesOf, headerOf, unpacked, bodyOf, matrixOf, readOf, writeOf}
-use Rattle.fields.specs.Strings.{stringsOf}
-use Rattle.weights.specs.Weights.{counted, sum, share, built, buildOf}
+use Rattle.files.specs.Files.{fileLength, headerBytes, matrixFile, sizesUnder, headerUnder, unpacked, bodyOf}
+use Rattle.files.specs.Files.{matrixUnder, matrixOf, readUnder, readOf, writeUnder, writeOf}
+use Rattle.fields.specs.Strings.{stringsUnder}
+use Rattle.weights.specs.Weights.{counted, sum, share, built, buildUnder, buildOf}
 use Rattle.programs.specs.declared.description.Program.{Program}
 use Rattle.programs.specs.declared.description.Instruction.{Instruction}
 use Rattle.programs.specs.declared.description.Instruction.the-variants.{Ones, Zero, Input, Not, And, Or, Output}
 use Rattle.programs.specs.Records.{recordBytes}
 use Rattle.programs.specs.Instructions.{instructionBytes, decodeOf, sizedOf}
-use Rattle.programs.specs.Header.{codeBytes, programFile, headerOf as programHeaderOf, headerBytes as programHeader}
-use Rattle.programs.specs.Header.{numbersOf as programNumbers, limitsOf as programLimits}
+use Rattle.programs.specs.Header.{codeBytes, programFile, headerUnder as programHeaderUnder, headerBytes as programHeader}
+use Rattle.programs.specs.Header.{numbersOf as programNumbers, limitsUnder as programLimitsUnder}
 use Rattle.machine.specs.Meaning.{exec}
-use Rattle.checker.specs.Checks.{checkOf, codeOf, instructionOf, also}
-use Rattle.machine.specs.Runs.{startOf, startOn, runOf}
+use Rattle.checker.specs.Checks.{checkUnder, codeOf, instructionOf, also}
+use Rattle.machine.specs.Runs.{startUnder, startOf, runOf}
 use Rattle.machine.specs.declared.runs.Run.{Run}
 use Rattle.compiler.specs.Translation.{bitsToWrite, rowBits, ifSet, marks, liveBefore, column}
-use Rattle.compiler.specs.Translation.{translation, program, compiled, compileOf}
-use Rattle.walk.specs.Walk.{at, scan, then, walk, drawn, used, Spending, walkOf}
+use Rattle.compiler.specs.Translation.{translation, program, compiled, compileUnder, compileOf}
+use Rattle.walk.specs.Walk.{at, scan, then, walk, drawn, used, Spending, walkUnder, walkOf}
 use Rattle.lanes.specs.Samples.{code}
 use Rattle.weights.specs.declared.building.Usage.{Usage}
 use Rattle.weights.specs.declared.building.Usage.the-variants.{Plain, Signed}
@@ -175,8 +176,9 @@ all-come (c ∷ cs) e =
 -- ---- the table holds
 pub cases-hold : All-come cases
 unfolding three-rows too-much one-row two-rows listed listing cases comes all-agree agrees same toldOf numbersOf sumTo any number digit
-    blocks upto fieldOf packedBit padded packed spare bit p total ones-in headerBytes matrixFile sizesOf headerOf unpacked bodyOf matrixOf
-    readOf writeOf counted sum share built buildOf stringsOf at scan then walk drawn used walkOf recordBytes instructionBytes decodeOf
-    sizedOf codeBytes programFile programHeaderOf programHeader programNumbers programLimits exec checkOf codeOf instructionOf also startOn
-    runOf bitsToWrite rowBits ifSet marks liveBefore column translation program compiled compileOf
+    blocks upto fieldOf packedBit padded packed spare bit p total ones-in headerBytes matrixFile sizesUnder headerUnder unpacked bodyOf
+    matrixUnder readUnder writeUnder counted sum share built buildUnder stringsUnder at scan then walk drawn used walkUnder recordBytes
+    instructionBytes decodeOf sizedOf codeBytes programFile programHeaderUnder programHeader programNumbers programLimitsUnder exec
+    checkUnder codeOf instructionOf also startUnder runOf bitsToWrite rowBits ifSet marks liveBefore column translation program compiled
+    compileUnder
 cases-hold = all-come cases refl

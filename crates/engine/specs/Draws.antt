@@ -15,7 +15,7 @@ use Rattle.lanes.specs.Slicing.{lanes, slice-gives}
 use Rattle.lanes.specs.Samples.{code, signedCode}
 use Rattle.compiler.specs.Translation.{program, compiled}
 use Rattle.machine.specs.Runs.{startOf}
-use Rattle.drawing.specs.Drawing.{drawnWith, drawOf, drawSignedOf}
+use Rattle.drawing.specs.Drawing.{drawnUnder, drawnWith, drawOf, drawSignedOf}
 use Rattle.engine.specs.Demand2.{compiled-is-accepted}
 use Rattle.engine.specs.Batches.{slicedWords, drawnAt, batch-samples, batch-signed}
 use Rattle.compiler.specs.Compiled.{inputs-are}
@@ -35,7 +35,7 @@ module _ (file : List ℕ) (M : Matrix) (e : matrixOf file ≡ gives M) (strings
   -- a drawing is a start on the sliced strings, then the outputs read
   drawing-is : {A : Type 0} (read : List ℕ → Outcome A) → drawnWith (compiled M) strings room read ≡
       (startOf (compiled M) (slicedWords (M .columns) strings) registers outputs (program M .count) >>= (λ x. read (x .state .outputs)))
-  unfolding drawnWith
+  unfolding drawnUnder
   drawing-is read =
       rw (
         compiled-is-accepted file M e,

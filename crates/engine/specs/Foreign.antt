@@ -10,7 +10,7 @@ use Rattle.laws.specs.Outcome.{Outcome, refused, gives, refuse, mapped, _>>_, _
 use Rattle.laws.specs.Changes.{Changed, Through, through-refused, through-changed}
 use Rattle.fields.specs.Foreign.{Foreign, foreign-cut}
 use Rattle.files.specs.Matrix.{Matrix, sizes}
-use Rattle.files.specs.Files.{matrixOf, readOf}
+use Rattle.files.specs.Files.{matrixOf, readUnder, readOf}
 use Rattle.files.specs.Checks.{header-says, matrix-read}
 use Rattle.files.specs.Foreign.{Short as ShortMatrix, matrixShortFirst, matrix-changed, matrix-few, matrix-foreign, matrix-cut}
 use Rattle.programs.specs.Header.{header-kind}
@@ -20,41 +20,41 @@ use Rattle.programs.specs.declared.description.Program.{Program}
 use Rattle.checker.specs.Checks.{Code, checkOf}
 use Rattle.checker.specs.Checking.{check-says}
 use Rattle.checker.specs.Foreign.{checkShortFirst, check-changed, check-few, check-foreign, check-cut}
-use Rattle.machine.specs.Runs.{startOf, startOn, resumeOf, resumeOn}
-use Rattle.walk.specs.Walk.{walkOf}
+use Rattle.machine.specs.Runs.{startOf, startUnder, resumeOf, resumeUnder}
+use Rattle.walk.specs.Walk.{walkUnder, walkOf}
 use Rattle.lanes.specs.Slicing.{lanes, sliceOf}
-use Rattle.spent.specs.Spent.{spentOf}
-use Rattle.wanted.specs.Wanted.{wantedOf}
-use Rattle.cumulative.specs.Tables.{exportOf}
-use Rattle.compiler.specs.Translation.{compileOf}
-use Rattle.drawing.specs.Drawing.{drawnWith}
+use Rattle.spent.specs.Spent.{spentUnder, spentOf}
+use Rattle.wanted.specs.Wanted.{wantedUnder, wantedOf}
+use Rattle.cumulative.specs.Tables.{exportUnder, exportOf}
+use Rattle.compiler.specs.Translation.{compileUnder, compileOf}
+use Rattle.drawing.specs.Drawing.{drawnUnder, drawnWith}
 
 -- ---- what takes a matrix file goes on from the matrix that is read
 pub check-through : Through matrixOf (λ file. mapped sizes (matrixOf file))
 check-through = record { rest = λ M. gives (sizes M); goes-on = λ file. sym (bind-is (matrixOf file) sizes) }
 
 pub read-through : (room : ℕ) → Through matrixOf (λ file. readOf file room)
-unfolding readOf
+unfolding readUnder
 read-through room = record { rest = _; goes-on = λ file. refl }
 
 pub walk-through : (string : List ℕ) → Through matrixOf (λ file. walkOf file string)
-unfolding walkOf
+unfolding walkUnder
 walk-through string = record { rest = _; goes-on = λ file. refl }
 
 pub spent-through : (strings : List ℕ) → Through matrixOf (λ file. spentOf file strings)
-unfolding spentOf
+unfolding spentUnder
 spent-through strings = record { rest = _; goes-on = λ file. refl }
 
 pub string-for-through : (row room : ℕ) → Through matrixOf (λ file. wantedOf file row room)
-unfolding wantedOf
+unfolding wantedUnder
 string-for-through row room = record { rest = _; goes-on = λ file. refl }
 
 pub compile-through : (room : ℕ) → Through matrixOf (λ file. compileOf file room)
-unfolding compileOf
+unfolding compileUnder
 compile-through room = record { rest = _; goes-on = λ file. refl }
 
 pub export-through : (room : ℕ) → Through matrixOf (λ file. exportOf file room)
-unfolding exportOf
+unfolding exportUnder
 export-through room = record { rest = _; goes-on = λ file. refl }
 
 -- ---- what takes a program file goes on from the program that is checked
@@ -64,12 +64,12 @@ check-program-through =
 
 pub start-through : (inputs registers outputs : List ℕ) (budget : ℕ) →
     Through checkOf (λ file. startOf file inputs registers outputs budget)
-unfolding startOn
+unfolding startUnder
 start-through inputs registers outputs budget = record { rest = _; goes-on = λ file. refl }
 
 pub resume-through : (inputs registers outputs : List ℕ) (position budget : ℕ) →
     Through checkOf (λ file. resumeOf file inputs registers outputs position budget)
-unfolding resumeOn
+unfolding resumeUnder
 resume-through inputs registers outputs position budget = record { rest = _; goes-on = λ file. refl }
 
 -- drawing starts the program that it has checked, with any way of reading the outputs
@@ -87,7 +87,7 @@ module _ {A : Type 0} (strings : List ℕ) (room : ℕ) (read : List ℕ → Out
     read (e .state .outputs)
 
   pub draw-through : Through checkOf (λ file. drawnWith file strings room read)
-  unfolding drawnWith afterCheck
+  unfolding drawnUnder afterCheck
   draw-through =
       record {
         rest = afterCheck;

@@ -14,4 +14,5 @@ pub mod Signed
 pub mod Lookups
 pub mod Wanted
 pub mod Foreign
+pub mod Raised
 pub mod Cases

@@ -15,7 +15,7 @@ use Rattle.laws.specs.Lists.{blocks, upto, upto-eq, getD-upto, length-blocks}
 use Rattle.laws.specs.Outcome.{gives, mapped, _>>=_, gives-inj}
 use Rattle.fields.specs.Fields.{width, bitOf, padded, padded-below, padded-above, packed-bit, spare, spare-none}
 use Rattle.fields.specs.Limits.{most-columns, inside}
-use Rattle.fields.specs.Strings.{stringsOf}
+use Rattle.fields.specs.Strings.{stringsUnder, stringsOf}
 use Rattle.files.specs.Matrix.{Matrix}
 use Rattle.files.specs.Files.{matrixOf}
 use Rattle.files.specs.RoundTrip.{read-accepted}
@@ -118,7 +118,7 @@ module _ (file : List ℕ) (M : Matrix) (e : matrixOf file ≡ gives M) (space :
         packed-bit n (λ v i. getD string i 0) lanes j i (least .bits .each) h l
 
     sound-there : stringsOf lanes (M .columns) everywhere ≡ gives tt
-    unfolding stringsOf
+    unfolding stringsUnder
     sound-there =
         let n : ℕ = M .columns in
         let a = read-accepted file M e in

@@ -19,14 +19,14 @@ use Rattle.combining.specs.Combination.{entry, resultOf, Samples}
 use Rattle.combining.specs.Combining.{unfit, combineOf}
 use Rattle.combining.specs.Reading.{read-samples, samples-combined}
 use Rattle.compiler.specs.Translation.{compiled}
-use Rattle.drawing.specs.Drawing.{drawnWith, drawSignedOf}
+use Rattle.drawing.specs.Drawing.{drawnUnder, drawSignedOf}
 use Rattle.engine.specs.Batches.{drawnAt}
 use Rattle.engine.specs.Draws.{draw-signed-walks}
 use Rattle.engine.specs.Parts.{Table}
 
 -- ---- lists drawn in one call
 pub draw-samples : (program strings : List ℕ) (sign room : ℕ) (xs : List ℤ) → drawSignedOf program strings sign room ≡ gives xs → Samples xs
-unfolding drawnWith
+unfolding drawnUnder
 draw-samples program strings sign room xs e =
     let a = bound (checkOf program) _ xs e in
     let p = a .0 .program in

@@ -1,14 +1,19 @@
--- 01, "Matrix and walk": the limit of columns, and sizes within a limit or not. Assumes nothing.
+-- 01, "Matrix and walk", with 02, order 8: the limit of columns, sizes within a limit or not, and a limit that is raised. Assumes nothing.
 use Prim.Native.Nat.{ℕ, _≤_, _<_}
-use mathlib.Core.Path.{_≡_}
+use mathlib.Core.Path.{_≡_, sym, _∙_}
 use mathlib.Core.Bool.{Bool, true, false, _||_}
+use mathlib.Core.Logic.{⊎-elim}
+use native.Mathlib.Omega.{arith}
 use borrow.Author.Tests.{lt-ltb, le-ltb, ltb-false}
 use lib.Dec.{ltb}
-use Rattle.laws.specs.Tests.{neither}
+use Rattle.laws.specs.Tests.{never, neither, lt-or-ge}
+use Rattle.laws.specs.Outcome.{Outcome, refuse, _>>_}
+use Rattle.laws.specs.Raised.{Raised, raised-check}
 
--- n is 1 to 128: the columns of a matrix, and the bits of a string
+-- n is 1 to 192 (02, order 8): the columns of a matrix, and the bits of a string. Definitions `..Under` are told how many columns they
+-- allow, so that limits can be compared (engine/Raised); `..Of` are the same at this limit.
 abbrev pub most-columns : ℕ
-most-columns = 128
+most-columns = 192
 
 -- a size outside 1 to `most`
 abbrev pub outside : ℕ → ℕ → Bool
@@ -29,3 +34,24 @@ module _ (most x : ℕ) where
   within e =
       let s = neither (ltb x 1) (ltb most x) e in
       (ltb-false x 1 (s .0), ltb-false most x (s .1))
+
+-- ---- a limit that is raised (02, order 8)
+-- a size that is above one limit and not above another
+abbrev pub Between : ℕ → ℕ → ℕ → Type 0
+Between most more x = (most < x) × (x ≤ more)
+
+-- raising a limit changes an outcome only where it was that limit's refusal, and only for a size between the two
+pub limit-raised : {A : Type 0} {i : ℕ} (most more x : ℕ) → most ≤ more → (rest : Outcome A) →
+    Raised (Between most more x) i (refuse i (outside most x) >> rest) (refuse i (outside more x) >> rest)
+limit-raised most more x h rest = raised-check (outside most x) (outside more x) rest still between
+  where
+    still : outside more x ≡ true → outside most x ≡ true
+    still e = ⊎-elim (outside-below most x) some (lt-or-ge x 1)
+      where
+        some : 1 ≤ x → outside most x ≡ true
+        some a = ⊎-elim (outside-above most x a) (λ (l : x ≤ most). never (sym (inside more x a (omega arith)) ∙ e)) (lt-or-ge most x)
+
+    between : outside most x ≡ true → outside more x ≡ false → Between most more x
+    between e q =
+        let s = within more x q in
+        ⊎-elim (λ (l : most < x). (l, s .1)) (λ (l : x ≤ most). never (sym (inside most x (s .0) l) ∙ e)) (lt-or-ge most x)

@@ -20,12 +20,16 @@ use Rattle.fields.specs.declared.packing.Strings.the-variants as Strings
 abbrev pub anySpare : ℕ → ℕ → List ℕ → Bool
 anySpare count n bytes = any count (λ v. spare bytes n (v * width n))
 
--- `count` strings of n bits, one after another: their sizes, that all are there, and their spare bits
-unfoldable pub stringsOf : ℕ → ℕ → List ℕ → Outcome (Unit {0})
-stringsOf count n bytes = do
-  refuse 3 (outside most-columns n)
+-- `count` strings of n bits, one after another, of which at most `most` are allowed: their sizes, that all are there, and their spare bits
+unfoldable pub stringsUnder : ℕ → ℕ → ℕ → List ℕ → Outcome (Unit {0})
+stringsUnder most count n bytes = do
+  refuse 3 (outside most n)
   refuse 13 (ltb (length bytes) (count * width n))
   refuse 5 (anySpare count n bytes)
+
+-- at the limit of columns
+abbrev pub stringsOf : ℕ → ℕ → List ℕ → Outcome (Unit {0})
+stringsOf = stringsUnder most-columns
 
 -- the answer's cases in 01's numbers
 abbrev pub strung : Strings → Outcome (Unit {0})
@@ -35,7 +39,7 @@ strung Strings.Sound = gives tt
 -- ---- the ways through the checks, with the room found by a division
 module _ (count n : ℕ) (bytes : List ℕ) where
   pub strings-size : outside most-columns n ≡ true → refused 3 ≡ stringsOf count n bytes
-  unfolding stringsOf
+  unfolding stringsUnder
   strings-size a = rw a
 
   module _ (a : outside most-columns n ≡ false) where
@@ -46,12 +50,12 @@ module _ (count n : ℕ) (bytes : List ℕ) where
     strings-room h = le-div-iff-mul-le wide .0 h
 
     pub strings-short : length bytes / width n < count → refused 13 ≡ stringsOf count n bytes
-    unfolding stringsOf
+    unfolding stringsUnder
     strings-short h = rw (a, lt-ltb (length bytes) (count * width n) (div-lt-iff-lt-mul wide .0 h))
 
     -- all are there: what is left is whether a spare bit is set
     pub strings-whole : count * width n ≤ length bytes → stringsOf count n bytes ≡ refuse 5 (anySpare count n bytes)
-    unfolding stringsOf
+    unfolding stringsUnder
     strings-whole h = rw (a, le-ltb (length bytes) (count * width n) h)
 
     pub strings-spare : count ≤ length bytes / width n → (b : Bool) → b ≡ anySpare count n bytes → refuse 5 b ≡ stringsOf count n bytes

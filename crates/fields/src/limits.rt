@@ -3,8 +3,8 @@ ghost use mathlib.Core.Path.{_≡_};
 ghost use Prim.Native.Nat.{min};
 ghost use Rattle.fields.specs.Limits.{outside};
 
-// The largest number of columns: the bits of a row and of a string.
-pub const COLUMNS: usize = 128;
+// The largest number of columns (02, order 8): the bits of a row and of a string.
+pub const COLUMNS: usize = 192;
 
 // Whether a size is outside 1 to `most`.
 pub fn outside(most: usize, x: usize) -> bool

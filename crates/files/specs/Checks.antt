@@ -11,33 +11,34 @@ use lib.ListN.{length, take, drop, length-drop}
 use Rattle.laws.specs.Tests.{lt-or-ge}
 use Rattle.laws.specs.Lists.{row-end, rest-is}
 use Rattle.laws.specs.Outcome.{refused, gives, refuse, _>>_, passed, bound, mapped, mapped-gives, mapped-refused, gives-inj}
-use Rattle.fields.specs.Limits.{most-columns, inside, within}
+use Rattle.fields.specs.Limits.{most-columns, outside, inside, within}
 use Rattle.fields.specs.Fields.{fieldOf, width, bitOf}
 use Rattle.fields.specs.Strings.{anySpare, stringsOf, strings-whole}
 use Rattle.files.specs.Matrix.{Matrix, Sizes, sizes, sizesOutside, bit, p, total, most-rows}
 use Rattle.files.specs.Matrices.{tabled-bit}
 use Rattle.files.specs.Sizes.{sizes-refuse}
 use Rattle.files.specs.Live.{total-from, total-eq, rowsFit}
-use Rattle.files.specs.Files.{fileLength, sizesOf, headerOf, bodyOf, matrixOf, readOf, unpacked, Whole}
+use Rattle.files.specs.Files.{fileLength, sizesUnder, headerUnder, headerOf, bodyOf, unpacked, Whole}
+use Rattle.files.specs.Files.{matrixUnder, matrixOf, readUnder, readOf}
 
 -- ---- the header: how far it came
 module _ (file : List ℕ) where
   pub header-few : length file < 4 → refused 1 ≡ headerOf file
-  unfolding headerOf
+  unfolding headerUnder
   header-few a = rw (lt-ltb (length file) 4 a)
 
   module _ (a : 4 ≤ length file) where
     pub header-kind : (fieldOf file 2 ≡ 32 → ⊥) → refused 2 ≡ headerOf file
-    unfolding headerOf
+    unfolding headerUnder
     header-kind k = rw (le-ltb (length file) 4 a, ne-eqb (fieldOf file 2) 32 k)
 
     module _ (k : fieldOf file 2 ≡ 32) where
       pub header-short : length file < 8 → refused 1 ≡ headerOf file
-      unfolding headerOf
+      unfolding headerUnder
       header-short b = rw (le-ltb (length file) 4 a, eq-eqb (fieldOf file 2) 32 k, lt-ltb (length file) 8 b)
 
       pub header-cut : 8 ≤ length file → length file < fieldOf file 0 → refused 1 ≡ headerOf file
-      unfolding headerOf
+      unfolding headerUnder
       header-cut b c =
           rw (
             le-ltb (length file) 4 a,
@@ -59,7 +60,7 @@ module _ {file : List ℕ} {len m n : ℕ} (k : Kinded file len m n) where
   past-kind : headerOf file ≡
       (refuse 3 (sizesOutside m n) >> (refuse 4 (not (eqb len (fileLength m n))) >>
       (refuse 4 (not (eqb (length file) len)) >> gives (record { rows = m; columns = n }))))
-  unfolding headerOf sizesOf
+  unfolding headerUnder sizesUnder
   past-kind =
       let there : fieldOf file 0 ≤ length file = rw (k .length-is) at (k .there) in
       rw (
@@ -94,27 +95,45 @@ pub record Header (file : List ℕ) (s : Sizes) : Type 0 where
   pub rows-is : fieldOf file 4 ≡ s .rows
   pub columns-is : fieldOf file 6 ≡ s .columns
 
-pub header-says : (file : List ℕ) (s : Sizes) → headerOf file ≡ gives s → Header file s
-unfolding headerOf sizesOf
-header-says file s e =
+-- check by check, whatever the limit of columns
+record Passed (most : ℕ) (file : List ℕ) (s : Sizes) : Type 0 where
+  kind-is : fieldOf file 2 ≡ 32
+  rows-in : outside most-rows (fieldOf file 4) ≡ false
+  columns-in : outside most (fieldOf file 6) ≡ false
+  length-is : fieldOf file 0 ≡ fileLength (fieldOf file 4) (fieldOf file 6)
+  long : length file ≡ fieldOf file 0
+  sizes-are : record { rows = fieldOf file 4; columns = fieldOf file 6 } ≡ s
+
+header-passed : (most : ℕ) (file : List ℕ) (s : Sizes) → headerUnder most file ≡ gives s → Passed most file s
+unfolding headerUnder sizesUnder
+header-passed most file s e =
     let c1 = passed 1 (ltb (length file) 4) _ s e in
     let c2 = passed 2 (not (eqb (fieldOf file 2) 32)) _ s (c1 .1) in
     let c3 = passed 1 (ltb (length file) 8) _ s (c2 .1) in
     let c4 = passed 1 (ltb (length file) (fieldOf file 0)) _ s (c3 .1) in
-    let c5 = passed 3 _ _ s (c4 .1) in
-    let c6 = passed 3 _ _ s (c5 .1) in
-    let c7 = passed 4 _ _ s (c6 .1) in
-    let c8 = passed 4 _ _ s (c7 .1) in
-    let r = within most-rows (fieldOf file 4) (c5 .0) in
-    let c = within most-columns (fieldOf file 6) (c6 .0) in
-    let k = eqb-true _ _ (not-false _ (c2 .0)) in
-    let l = eqb-true _ _ (not-false _ (c7 .0)) in
-    let e = eqb-true _ _ (not-false _ (c8 .0)) in
-    subst (Header file) (gives-inj (c8 .1))
+    let c5 = passed 3 (outside most-rows (fieldOf file 4)) _ s (c4 .1) in
+    let c6 = passed 3 (outside most (fieldOf file 6)) _ s (c5 .1) in
+    let c7 = passed 4 (not (eqb (fieldOf file 0) (fileLength (fieldOf file 4) (fieldOf file 6)))) _ s (c6 .1) in
+    let c8 = passed 4 (not (eqb (length file) (fieldOf file 0))) _ s (c7 .1) in
+    record {
+      kind-is = eqb-true _ _ (not-false _ (c2 .0));
+      rows-in = c5 .0;
+      columns-in = c6 .0;
+      length-is = eqb-true _ _ (not-false _ (c7 .0));
+      long = eqb-true _ _ (not-false _ (c8 .0));
+      sizes-are = gives-inj (c8 .1);
+    }
+
+pub header-says : (file : List ℕ) (s : Sizes) → headerOf file ≡ gives s → Header file s
+header-says file s e =
+    let c = header-passed most-columns file s e in
+    let m = within most-rows (fieldOf file 4) (c .rows-in) in
+    let n = within most-columns (fieldOf file 6) (c .columns-in) in
+    subst (Header file) (c .sizes-are)
     (record {
-      sized = record { some-rows = r .0; few-rows = r .1; some-columns = c .0; few-columns = c .1; long = e ∙ l };
-      length-is = l;
-      kind-is = k;
+      sized = record { some-rows = m .0; few-rows = m .1; some-columns = n .0; few-columns = n .1; long = c .long ∙ c .length-is };
+      length-is = c .length-is;
+      kind-is = c .kind-is;
       rows-is = refl;
       columns-is = refl;
     })
@@ -179,7 +198,7 @@ pub record Read (file : List ℕ) (M : Matrix) : Type 0 where
   pub is : M ≡ unpacked (drop 8 file) (sizes M)
 
 pub matrix-read : (file : List ℕ) (M : Matrix) → matrixOf file ≡ gives M → Read file M
-unfolding matrixOf bodyOf unpacked
+unfolding matrixUnder bodyOf unpacked
 matrix-read file M e =
     let b = bound (headerOf file) (bodyOf file) M e in
     let c5 = passed 5 _ _ M (b .2) in
@@ -193,14 +212,27 @@ matrix-read file M e =
       is = refl;
     })
 
+-- whatever the limit of columns, a matrix that is read has as many as its header says, and no more than the limit
+pub matrix-columns : (most : ℕ) (file : List ℕ) (M : Matrix) → matrixUnder most file ≡ gives M →
+    (fieldOf file 6 ≡ M .columns) × (M .columns ≤ most)
+unfolding matrixUnder bodyOf unpacked
+matrix-columns most file M e =
+    let (s, head, body) = bound (headerUnder most file) (bodyOf file) M e in
+    let c5 = passed 5 (anySpare (s .rows) (s .columns) (drop 8 file)) _ M body in
+    let c6 = passed 6 (ltb (2 ^ s .columns) (total (unpacked (drop 8 file) s))) _ M (c5 .1) in
+    let h = header-passed most file s head in
+    let same : fieldOf file 6 ≡ M .columns =
+    ap (λ (t : Sizes). t .columns) (h .sizes-are) ∙ ap (λ (N : Matrix). N .columns) (gives-inj (c6 .1)) in
+    (same, rw (← same) (within most (fieldOf file 6) (h .columns-in) .1))
+
 -- ---- reading
 module _ (file : List ℕ) (room : ℕ) where
   pub read-refused : (n : ℕ) → refused n ≡ mapped sizes (matrixOf file) → readOf file room ≡ refused n
-  unfolding readOf
+  unfolding readUnder
   read-refused n e = rw (mapped-refused sizes (matrixOf file) n e)
 
   pub read-short : (s : Sizes) → gives s ≡ mapped sizes (matrixOf file) → room < s .rows * s .columns → readOf file room ≡ refused 13
-  unfolding readOf
+  unfolding readUnder
   read-short s e h =
       let g = mapped-gives sizes (matrixOf file) s e in
       let l : ltb room (g .0 .rows * g .0 .columns) ≡ true = rw (← g .2) at (lt-ltb room (s .rows * s .columns) h) in
@@ -208,7 +240,7 @@ module _ (file : List ℕ) (room : ℕ) where
 
   -- a file with a matrix, read into a buffer with room for its entries, gives it
   pub read-room : (M : Matrix) → matrixOf file ≡ gives M → M .rows * M .columns ≤ room → readOf file room ≡ gives M
-  unfolding readOf
+  unfolding readUnder
   read-room M e h = rw (e, le-ltb room (M .rows * M .columns) h)
 
   pub read-gives : (s : Sizes) → gives s ≡ mapped sizes (matrixOf file) → s .rows * s .columns ≤ room →

@@ -32,23 +32,30 @@ rowBytes M = blocks (M .rows) (λ v. packed (M .columns) (bit M v))
 unfoldable pub matrixFile : Matrix → List ℕ
 matrixFile M = headerBytes (M .rows) (M .columns) ++ rowBytes M
 
--- the sizes of a header that is there and of its kind: refusals 3 and 4, or rows and columns
-unfoldable pub sizesOf : List ℕ → Outcome Sizes
-sizesOf file = do
+-- the sizes of a header that is there and of its kind, where at most `most` columns are allowed: refusals 3 and 4, or rows and columns
+unfoldable pub sizesUnder : ℕ → List ℕ → Outcome Sizes
+sizesUnder most file = do
   refuse 3 (outside most-rows (fieldOf file 4))
-  refuse 3 (outside most-columns (fieldOf file 6))
+  refuse 3 (outside most (fieldOf file 6))
   refuse 4 (not (eqb (fieldOf file 0) (fileLength (fieldOf file 4) (fieldOf file 6))))
   refuse 4 (not (eqb (length file) (fieldOf file 0)))
   gives (record { rows = fieldOf file 4; columns = fieldOf file 6 })
 
 -- a matrix file's header: where four bytes are there, the kind is tried before the length (02, order 3); then its sizes
-unfoldable pub headerOf : List ℕ → Outcome Sizes
-headerOf file = do
+unfoldable pub headerUnder : ℕ → List ℕ → Outcome Sizes
+headerUnder most file = do
   refuse 1 (ltb (length file) 4)
   refuse 2 (not (eqb (fieldOf file 2) 32))
   refuse 1 (ltb (length file) 8)
   refuse 1 (ltb (length file) (fieldOf file 0))
-  sizesOf file
+  sizesUnder most file
+
+-- at the limit of columns
+abbrev pub sizesOf : List ℕ → Outcome Sizes
+sizesOf = sizesUnder most-columns
+
+abbrev pub headerOf : List ℕ → Outcome Sizes
+headerOf = headerUnder most-columns
 
 -- the matrix whose rows are packed one after another: row v begins at byte v * width n
 unfoldable pub unpacked : List ℕ → Sizes → Matrix
@@ -62,25 +69,37 @@ bodyOf file s = do
   gives (unpacked (drop 8 file) s)
 
 -- a matrix file: its refusal, or its matrix
-unfoldable pub matrixOf : List ℕ → Outcome Matrix
-matrixOf file = do
-  s ← headerOf file
+unfoldable pub matrixUnder : ℕ → List ℕ → Outcome Matrix
+matrixUnder most file = do
+  s ← headerUnder most file
   bodyOf file s
 
+-- at the limit of columns
+abbrev pub matrixOf : List ℕ → Outcome Matrix
+matrixOf = matrixUnder most-columns
+
 -- reading a file into a buffer of `room` bytes: its matrix, whose entries are laid down
-unfoldable pub readOf : List ℕ → ℕ → Outcome Matrix
-readOf file room = do
-  M ← matrixOf file
+unfoldable pub readUnder : ℕ → List ℕ → ℕ → Outcome Matrix
+readUnder most file room = do
+  M ← matrixUnder most file
   refuse 13 (ltb room (M .rows * M .columns))
   gives M
 
+-- at the limit of columns
+abbrev pub readOf : List ℕ → ℕ → Outcome Matrix
+readOf = readUnder most-columns
+
 -- writing the header of a file of m rows and n columns into a buffer of `room` bytes, where all of that file has room
-unfoldable pub writeHeaderOf : ℕ → ℕ → ℕ → Outcome (List ℕ)
-writeHeaderOf m n room = do
+unfoldable pub writeHeaderUnder : ℕ → ℕ → ℕ → ℕ → Outcome (List ℕ)
+writeHeaderUnder most m n room = do
   refuse 3 (outside most-rows m)
-  refuse 3 (outside most-columns n)
+  refuse 3 (outside most n)
   refuse 13 (ltb room (fileLength m n))
   gives (headerBytes m n)
+
+-- at the limit of columns
+abbrev pub writeHeaderOf : ℕ → ℕ → ℕ → Outcome (List ℕ)
+writeHeaderOf = writeHeaderUnder most-columns
 
 -- the matrix of m rows and n columns whose entries stand row after row
 abbrev pub taken : ℕ → ℕ → List ℕ → Matrix
@@ -91,15 +110,19 @@ abbrev pub aboveOne : ℕ → List ℕ → Bool
 aboveOne k entries = any k (λ i. ltb 1 (getD entries i 0))
 
 -- writing m rows and n columns, row after row in `entries`, into a buffer of `room` bytes: the file that is laid down
-unfoldable pub writeOf : ℕ → ℕ → List ℕ → ℕ → Outcome (List ℕ)
-writeOf m n entries room = do
+unfoldable pub writeUnder : ℕ → ℕ → ℕ → List ℕ → ℕ → Outcome (List ℕ)
+writeUnder most m n entries room = do
   refuse 3 (outside most-rows m)
-  refuse 3 (outside most-columns n)
+  refuse 3 (outside most n)
   refuse 13 (ltb (length entries) (m * n))
   refuse 5 (aboveOne (m * n) entries)
   refuse 6 (ltb (2 ^ n) (total (taken m n entries)))
   refuse 13 (ltb room (fileLength m n))
   gives (matrixFile (taken m n entries))
+
+-- at the limit of columns
+abbrev pub writeOf : ℕ → ℕ → List ℕ → ℕ → Outcome (List ℕ)
+writeOf = writeUnder most-columns
 
 -- ---- the answer's cases in 01's numbers and values
 abbrev pub checked : Checked → Outcome Sizes

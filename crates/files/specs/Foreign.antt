@@ -16,7 +16,7 @@ use Rattle.laws.specs.Changes.{Changed, same-iff, changed-then}
 use Rattle.fields.specs.Fields.{fieldOf, field-front}
 use Rattle.fields.specs.Foreign.{Foreign, kind-first}
 use Rattle.files.specs.Matrix.{Matrix, Sizes, sizes}
-use Rattle.files.specs.Files.{sizesOf, headerOf, bodyOf, matrixOf}
+use Rattle.files.specs.Files.{sizesOf, headerUnder, headerOf, bodyOf, matrixUnder, matrixOf}
 use Rattle.files.specs.Checks.{header-few, header-kind, header-short, header-cut, Header, header-says, matrix-read}
 
 -- a matrix file that is short: under 8 bytes, or under its length field
@@ -51,14 +51,14 @@ module _ (file : List ℕ) where
   )
 
   pub header-changed : Changed (Foreign 32 file × Short file) 1 2 (headerShortFirst file) (headerOf file)
-  unfolding headerShortFirst headerOf
+  unfolding headerShortFirst headerUnder
   header-changed =
       rw (refuse-either 1 under-eight under-field (sizesOf file), refuse-either 1 under-eight under-field)
       (kind-first 32 file (Short file) (under-eight || under-field) short-is (λ h. inl (omega arith)) (sizesOf file))
 
   -- of a matrix file: 1 became 2 where it is foreign and short, and every other file is answered as before
   pub matrix-changed : Changed (Foreign 32 file × Short file) 1 2 (matrixShortFirst file) (matrixOf file)
-  unfolding matrixShortFirst matrixOf
+  unfolding matrixShortFirst matrixUnder
   matrix-changed = changed-then header-changed (bodyOf file)
 
   -- so the files that are answered as before are exactly those that are not both
@@ -68,15 +68,15 @@ module _ (file : List ℕ) where
 -- ---- the order, in plain words
 module _ (file : List ℕ) where
   pub matrix-few : length file < 4 → matrixOf file ≡ refused 1
-  unfolding matrixOf
+  unfolding matrixUnder
   matrix-few h = rw (← (header-few file h))
 
   pub matrix-foreign : Foreign 32 file → matrixOf file ≡ refused 2
-  unfolding matrixOf
+  unfolding matrixUnder
   matrix-foreign f = rw (← (header-kind file (f .0) (f .1)))
 
   pub matrix-short : 4 ≤ length file → fieldOf file 2 ≡ 32 → Short file → matrixOf file ≡ refused 1
-  unfolding matrixOf
+  unfolding matrixUnder
   matrix-short a k s = rw (← (cut (lt-or-ge (length file) 8) s))
     where
       cut : (length file < 8) ⊎ (8 ≤ length file) → Short file → refused 1 ≡ headerOf file

@@ -9,7 +9,7 @@ use Rattle.laws.specs.Digits.{number}
 use Rattle.laws.specs.Lists.{blocks, upto}
 use Rattle.fields.specs.Limits.{most-columns, outside}
 
--- the limits: m and n each 1 to 128
+-- m is 1 to 128, and n 1 to `most-columns`
 abbrev pub most-rows : ℕ
 most-rows = 128
 

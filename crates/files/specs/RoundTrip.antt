@@ -18,8 +18,8 @@ use Rattle.fields.specs.Fields.{fieldOf, fieldBytes, width, bitOf, packedBit, b
 use Rattle.fields.specs.Fields.{packed, packed-bit, length-packed, spare, spare-none, spare-zero}
 use Rattle.fields.specs.Strings.{anySpare}
 use Rattle.files.specs.Matrix.{Matrix, sizes, sizesOutside, Accepted, bit, total, most-rows}
-use Rattle.files.specs.Files.{fileLength, headerBytes, rowBytes, matrixFile, headerOf, bodyOf, matrixOf}
-use Rattle.files.specs.Files.{unpacked, readOf, taken, aboveOne, writeOf}
+use Rattle.files.specs.Files.{fileLength, headerBytes, rowBytes, matrixFile, headerOf, bodyOf, matrixUnder, matrixOf}
+use Rattle.files.specs.Files.{unpacked, readUnder, readOf, taken, aboveOne, writeUnder, writeOf}
 use Rattle.files.specs.Matrices.{equal-bits, tabled-whole, tabled-bits}
 use Rattle.files.specs.Sizes.{cell}
 use Rattle.files.specs.Checks.{Kinded, header-gives, header-says, Read, matrix-read, unpacked-bit, read-room}
@@ -76,7 +76,7 @@ module _ (M : Matrix) (ok : Accepted M) where
   body-same = rw (no-spare, same, le-ltb (2 ^ M .columns) (total M) (ok .sum))
 
   pub write-read : matrixOf (matrixFile M) ≡ gives M
-  unfolding matrixOf
+  unfolding matrixUnder
   write-read = rw header-same body-same
 
 -- ---- an accepted file written again is the same bytes
@@ -173,7 +173,7 @@ module _ (file : List ℕ) (bytes : (i : ℕ) → getD file i 0 < 256) (M : Matr
 pub read-then-write : (file entries : List ℕ) (room : ℕ) (M : Matrix) → ((i : ℕ) → getD file i 0 < 256) →
     readOf file (length entries) ≡ gives M → length file ≤ room →
     writeOf (M .rows) (M .columns) (lay (M .entries) entries) room ≡ gives file
-unfolding readOf
+unfolding readUnder
 read-then-write file entries room M bytes e h =
     let b = bound (matrixOf file) (λ X. refuse 13 (ltb (length entries) (X .rows * X .columns)) >> gives X) M e in
     let c = passed 13 (ltb (length entries) (b .0 .rows * b .0 .columns)) (gives (b .0)) M (b .2) in
@@ -199,7 +199,7 @@ read-then-write file entries room M bytes e h =
 -- A written file is that of the matrix of the entries.
 pub written-is : (m n : ℕ) (entries file : List ℕ) (room : ℕ) → writeOf m n entries room ≡ gives file →
     matrixOf file ≡ gives (taken m n entries)
-unfolding writeOf
+unfolding writeUnder
 written-is m n entries file room e =
     let c1 = passed 3 _ _ file e in
     let c2 = passed 3 _ _ file (c1 .1) in

@@ -33,15 +33,16 @@ module _ (m n : ℕ) where
   sizes-refuse rest = refuse-either 3 (outside most-rows m) (outside most-columns n) rest
 
   -- no product of sizes within their limits is large
-  pub few-cells : sizesOutside m n ≡ false → m * n ≤ 16384
+  pub few-cells : sizesOutside m n ≡ false → m * n ≤ most-rows * most-columns
   few-cells e =
       let s = sizes-within e in
-      omega (arith, mul-le-mul {n₁ = m} {m₁ = n} {n₂ = 128} {m₂ = 128} (s .few-rows) (s .few-columns))
+      omega (arith, mul-le-mul {n₁ = m} {m₁ = n} {n₂ = most-rows} {m₂ = most-columns} (s .few-rows) (s .few-columns))
 
-  pub file-small : sizesOutside m n ≡ false → fileLength m n ≤ 2056
+  pub file-small : sizesOutside m n ≡ false → fileLength m n ≤ fileLength most-rows most-columns
   file-small e =
       let s = sizes-within e in
-      omega (arith, mul-le-mul {n₁ = m} {m₁ = width n} {n₂ = 128} {m₂ = 16} (s .few-rows) (omega (arith, s .few-columns)))
+      let wide : width n ≤ width most-columns = omega (arith, s .few-columns) in
+      omega (arith, mul-le-mul {n₁ = m} {m₁ = width n} {n₂ = most-rows} {m₂ = width most-columns} (s .few-rows) wide)
 
 -- row v behind a header
 pub row-place : {v m w size : ℕ} (n : ℕ) → v < m → w ≡ width n → 8 + m * width n ≤ size → 8 + v * w + width n ≤ size

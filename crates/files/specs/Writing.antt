@@ -17,7 +17,8 @@ use Rattle.laws.specs.Outcome.{mapped-then, ends-given}
 use Rattle.fields.specs.Fields.{fieldBytes, stored, stored-at, packedBit, packed, packed-eq, width, length-packed}
 use Rattle.files.specs.Matrix.{Matrix, sizesOutside, bit, total}
 use Rattle.files.specs.Live.{total-from, rowsFit}
-use Rattle.files.specs.Files.{fileLength, headerBytes, rowBytes, matrixFile, taken, aboveOne, writeHeaderOf, writeOf}
+use Rattle.files.specs.Files.{fileLength, headerBytes, rowBytes, matrixFile, taken, aboveOne}
+use Rattle.files.specs.Files.{writeHeaderUnder, writeHeaderOf, writeUnder, writeOf}
 use Rattle.files.specs.Sizes.{Sized, sizes-within, sizes-refuse, cell}
 use Rattle.files.specs.Checks.{total-is, not-above}
 
@@ -25,7 +26,7 @@ use Rattle.files.specs.Checks.{total-is, not-above}
 module _ (m n room : ℕ) where
   -- past the sizes
   head-is : writeHeaderOf m n room ≡ (refuse 3 (sizesOutside m n) >> (refuse 13 (ltb room (fileLength m n)) >> gives (headerBytes m n)))
-  unfolding writeHeaderOf
+  unfolding writeHeaderUnder
   head-is = sizes-refuse m n _
 
   pub head-sizes : sizesOutside m n ≡ true → writeHeaderOf m n room ≡ refused 3
@@ -86,11 +87,11 @@ module _ (m n : ℕ) (entries : List ℕ) (room : ℕ) where
   write-is : sizesOutside m n ≡ false → writeOf m n entries room ≡
       (refuse 13 (ltb (length entries) (m * n)) >> (refuse 5 (aboveOne (m * n) entries) >>
       (refuse 6 (ltb (2 ^ n) (total (taken m n entries))) >> mapped (λ h. matrixFile (taken m n entries)) (writeHeaderOf m n room))))
-  unfolding writeOf
+  unfolding writeUnder
   write-is a = sizes-refuse m n _ ∙ rw (a, with-header m n room (matrixFile (taken m n entries)) a)
 
   pub write-sizes : sizesOutside m n ≡ true → writeOf m n entries room ≡ refused 3
-  unfolding writeOf
+  unfolding writeUnder
   write-sizes a = sizes-refuse m n _ ∙ rw a
 
   module _ (a : sizesOutside m n ≡ false) where

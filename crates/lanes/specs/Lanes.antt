@@ -21,10 +21,10 @@ use Rattle.laws.specs.Lay.{lay, at-front}
 use Rattle.laws.specs.Outcome.{gives, refuse, _>>_, gives-inj, laid, mapped, mapped-gives, passed, refuse-gives, then-gives}
 use Rattle.fields.specs.Fields.{bitOf, packedBit, bit-le, spare, width}
 use Rattle.fields.specs.Limits.{outside, most-columns}
-use Rattle.fields.specs.Strings.{stringsOf}
+use Rattle.fields.specs.Strings.{stringsUnder, stringsOf}
 use Rattle.programs.specs.Limits.{most-outputs}
 use Rattle.walk.specs.Walk.{Answer, sample, missed}
-use Rattle.lanes.specs.Slicing.{lanes, sliceOf, stringAt, wordOf}
+use Rattle.lanes.specs.Slicing.{lanes, sliceUnder, sliceOf, stringAt, wordOf}
 use Rattle.lanes.specs.Samples.{code, eachLane, laneHits, sampleOf, sampled, samplesOf, signedCode, signedSamplesOf, spelled}
 use Rattle.lanes.specs.declared.sampling.Sampled.the-variants as Sampled
 
@@ -49,7 +49,7 @@ pub record Cut (n : ℕ) (strings : List ℕ) (room : ℕ) (words : List ℕ) : 
   pub is : words ≡ upto n (wordOf strings (width n))
 
 pub cut : (n : ℕ) (strings : List ℕ) (room : ℕ) (words : List ℕ) → sliceOf n strings room ≡ gives words → Cut n strings room words
-unfolding sliceOf
+unfolding sliceUnder
 cut n strings room words e =
     let c = then-gives (stringsOf lanes n strings) (refuse 13 (ltb room n) >> gives (upto n (wordOf strings (width n)))) words e in
     let d = passed 13 (ltb room n) (gives (upto n (wordOf strings (width n)))) words (c .1) in
@@ -94,7 +94,7 @@ length-string n strings j h l =
 -- each of the strings that slicing takes is one that a walk takes
 pub string-sound : (n : ℕ) (strings : List ℕ) (j : ℕ) → j < lanes → stringsOf lanes n strings ≡ gives tt →
     stringsOf 1 n (stringAt n strings j) ≡ gives tt
-unfolding stringsOf
+unfolding stringsUnder
 string-sound n strings j h e =
     let c1 = passed 3 (outside most-columns n) _ tt e in
     let c2 = passed 13 (ltb (length strings) (lanes * width n)) _ tt (c1 .1) in

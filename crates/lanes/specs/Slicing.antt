@@ -11,7 +11,7 @@ use Rattle.laws.specs.Outcome.{Outcome, refused, gives, refuse, _>>_, passed}
 use Rattle.fields.specs.Fields.{bitOf, width}
 use Rattle.fields.specs.Limits.{outside, most-columns}
 use Rattle.fields.specs.Refusal.{numberOf}
-use Rattle.fields.specs.Strings.{stringsOf}
+use Rattle.fields.specs.Strings.{stringsUnder, stringsOf}
 use Rattle.lanes.specs.declared.slicing.Sliced.{Sliced}
 use Rattle.lanes.specs.declared.slicing.Sliced.the-variants as Sliced
 
@@ -32,11 +32,15 @@ unfoldable pub wordOf : List ℕ → ℕ → ℕ → ℕ
 wordOf strings w i = pack lanes (λ j. bitOf strings (j * w) i)
 
 -- slicing 64 strings of n bits into a buffer of `room` words: the n words that are laid down
-unfoldable pub sliceOf : ℕ → List ℕ → ℕ → Outcome (List ℕ)
-sliceOf n strings room = do
-  stringsOf lanes n strings
+unfoldable pub sliceUnder : ℕ → ℕ → List ℕ → ℕ → Outcome (List ℕ)
+sliceUnder most n strings room = do
+  stringsUnder most lanes n strings
   refuse 13 (ltb room n)
   gives (upto n (wordOf strings (width n)))
+
+-- at the limit of columns
+abbrev pub sliceOf : ℕ → List ℕ → ℕ → Outcome (List ℕ)
+sliceOf = sliceUnder most-columns
 
 -- the answer's cases in 01's numbers, and how many words are laid down
 abbrev pub sliced : Sliced → Outcome ℕ
@@ -46,21 +50,21 @@ sliced (Sliced.Words n) = gives n
 -- ---- the ways through the checks
 module _ (n : ℕ) (strings : List ℕ) (room : ℕ) where
   pub slice-refused : (k : ℕ) → refused k ≡ stringsOf lanes n strings → sliceOf n strings room ≡ refused k
-  unfolding sliceOf
+  unfolding sliceUnder
   slice-refused k e = rw (← e)
 
   pub slice-short : gives tt ≡ stringsOf lanes n strings → room < n → sliceOf n strings room ≡ refused 13
-  unfolding sliceOf
+  unfolding sliceUnder
   slice-short e h = rw (← e, lt-ltb room n h)
 
   pub slice-gives : gives tt ≡ stringsOf lanes n strings → n ≤ room → sliceOf n strings room ≡ gives (upto n (wordOf strings (width n)))
-  unfolding sliceOf
+  unfolding sliceUnder
   slice-gives e h = rw (← e, le-ltb room n h)
 
 -- what strings that passed say: that they are there
 pub strings-there : (n : ℕ) (strings : List ℕ) (room : ℕ) → gives tt ≡ stringsOf lanes n strings → n ≤ room →
     (lanes * width n ≤ length strings) × (n ≤ room)
-unfolding stringsOf
+unfolding stringsUnder
 strings-there n strings room e h =
     let c1 = passed 3 (outside most-columns n) _ tt (sym e) in
     let c2 = passed 13 (ltb (length strings) (lanes * width n)) _ tt (c1 .1) in

@@ -6,7 +6,7 @@ use mathlib.Core.Bool.{Bool, true, false}
 use mathlib.Core.List.{List}
 use mathlib.Core.Logic.{_↔_}
 use Rattle.laws.specs.Tests.{never}
-use Rattle.laws.specs.Outcome.{Outcome, refused, gives, refuse, _>>_, _>>=_, no-result}
+use Rattle.laws.specs.Outcome.{Outcome, refused, gives, refuse, _>>_, _>>=_, refused-inj, no-result}
 
 -- where P holds refusal i became j, and where it does not the outcome is what it was
 pub record Changed (P : Type 0) (i j : ℕ) {A : Type 0} (before now : Outcome A) : Type 0 where
@@ -19,9 +19,6 @@ pub record Through {A B : Type 0} (reader : List ℕ → Outcome A) (operation :
   pub goes-on : (file : List ℕ) → operation file ≡ (reader file >>= rest)
 
 -- ---- what a change says
-refused-inj : {A : Type 0} {i j : ℕ} → _≡_ {A = Outcome A} (refused i) (refused j) → i ≡ j
-refused-inj e = cc
-
 module _ {P : Type 0} {i j : ℕ} {A : Type 0} {before now : Outcome A} (c : Changed P i j before now) where
   -- the outcomes that did not change are exactly those where P does not hold
   pub same-iff : (i ≡ j → ⊥) → (now ≡ before) ↔ (P → ⊥)

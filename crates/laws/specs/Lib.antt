@@ -8,4 +8,5 @@ pub mod Lists
 pub mod Lay
 pub mod Outcome
 pub mod Changes
+pub mod Raised
 pub mod Every

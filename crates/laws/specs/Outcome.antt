@@ -42,6 +42,9 @@ laid f (gives a) = f a
 pub gives-inj : {A : Type 0} {a b : A} → gives a ≡ gives b → a ≡ b
 gives-inj e = cc
 
+pub refused-inj : {A : Type 0} {i j : ℕ} → _≡_ {A = Outcome A} (refused i) (refused j) → i ≡ j
+refused-inj e = cc
+
 -- a refusal is no result
 pub no-result : {A B : Type 0} (n : ℕ) (a : A) → refused n ≡ gives a → B
 no-result n a e = absurd (let z : _≡_ {A = ℕ} 0 1 = cc in omega arith)

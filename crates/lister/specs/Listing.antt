@@ -12,11 +12,11 @@ use Rattle.laws.specs.Outcome.{Outcome, refused, gives, refuse, _>>_, mapped, m
 use Rattle.fields.specs.Fields.{fieldOf, field-small, field-front}
 use Rattle.files.specs.Matrix.{Sizes, most-rows}
 use Rattle.fields.specs.Limits.{outside, most-columns}
-use Rattle.files.specs.Files.{fileLength, sizesOf, headerOf, matrixOf}
+use Rattle.files.specs.Files.{fileLength, sizesUnder, headerUnder, headerOf, matrixUnder}
 use Rattle.programs.specs.Instructions.{lengthOf}
 use Rattle.programs.specs.declared.description.Instruction.{Instruction}
 use Rattle.programs.specs.declared.description.Instruction.the-variants.{Ones, Zero, Input, Not, And, Or, Output}
-use Rattle.compiler.specs.Translation.{compileOf}
+use Rattle.compiler.specs.Translation.{compileUnder, compileOf}
 use Rattle.compiler.specs.Compiled.{compile-lays}
 
 pub length-few : (i : Instruction) → lengthOf i ≤ 10
@@ -51,7 +51,7 @@ long-checks false false false false = refl
 
 long-header : (file : List ℕ) → 8 ≤ length file → fieldOf file 0 < length file →
     headerOf file ≡ refused (longNumber (fieldOf file 2) (fieldOf file 4) (fieldOf file 6))
-unfolding headerOf sizesOf longNumber
+unfolding headerUnder sizesUnder longNumber
 long-header file a b =
     rw (
       le-ltb (length file) 4 (omega arith),
@@ -65,7 +65,7 @@ long-header file a b =
 -- so the front of such a file, if it too is longer than any length field, comes to what all of the file does
 pub front-decides : (most : ℕ) (file : List ℕ) (room : ℕ) → ((i : ℕ) → getD file i 0 < 256) → 65536 ≤ most → most ≤ length file →
     compileOf (take most file) room ≡ compileOf file room
-unfolding compileOf matrixOf
+unfolding compileUnder matrixUnder
 front-decides most file room bytes a b =
     let same = field-front most file in
     let long : length (take most file) ≡ most = length-take-le most file b in

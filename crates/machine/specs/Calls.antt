@@ -14,7 +14,7 @@ use Rattle.programs.specs.declared.description.Program.{Program}
 use Rattle.programs.specs.declared.description.Instruction.{Instruction}
 use Rattle.machine.specs.Meaning.{Gates, State, exec-long}
 use Rattle.checker.specs.Checks.{Code, checkOf}
-use Rattle.machine.specs.Runs.{Ended, carried, runOf, roomFor, startOn, resumeOn}
+use Rattle.machine.specs.Runs.{Ended, carried, runOf, roomFor, startUnder, startOn, resumeUnder, resumeOn}
 
 -- ---- what is asked of lent words
 -- at least as many as the header says
@@ -142,7 +142,7 @@ module _ {A : Type 0} (G : Gates A) where
     -- ---- a start and a resume are runs of the admitted program
     pub start-is : (budget : ℕ) → startOn G file inputs registers outputs budget ≡
         mapped (callRun (starting G file inputs registers outputs) budget) (admitted G file inputs registers outputs 0)
-    unfolding startOn admitted
+    unfolding startUnder admitted
     start-is budget =
         let run : Code → Ended A = callRun (starting G file inputs registers outputs) budget in
         mapped-bind (checkOf file) _ _ run
@@ -152,7 +152,7 @@ module _ {A : Type 0} (G : Gates A) where
     entry-is : (e : Entry) (budget : ℕ) →
         let k : Call A = record { gates = G; file = file; inputs = inputs; registers = registers; outputs = outputs; entry = e } in
         callOn k budget ≡ mapped (callRun k budget) (admits k)
-    unfolding resumeOn admitted
+    unfolding resumeUnder admitted
     entry-is start budget = start-is budget
     entry-is (resume position) budget =
         let run : Code → Ended A = callRun (resuming G file inputs registers outputs position) budget in

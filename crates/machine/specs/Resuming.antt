@@ -14,7 +14,7 @@ use Rattle.programs.specs.Reading.{within-means}
 use Rattle.programs.specs.declared.description.Instruction.{Instruction}
 use Rattle.machine.specs.Meaning.{Gates, State, exec, exec-append}
 use Rattle.checker.specs.Checks.{Code, checkOf}
-use Rattle.machine.specs.Runs.{Ended, steps, carried, runAnswer, runOf, startOn, resumeOn}
+use Rattle.machine.specs.Runs.{Ended, steps, carried, runAnswer, runOf, startOn, resumeUnder, resumeOn}
 use Rattle.machine.specs.Calls.{Room, Sized, Call, starting, resuming, cleared, lent, callOn, begins, from, admits, MayRun, callRun}
 use Rattle.machine.specs.Calls.{room-gives, admits-says, call-part, call-gives, call-ran, sized-from, sized-run}
 use Rattle.checker.specs.Encoding.{accepted-sound}
@@ -181,7 +181,7 @@ module _ {A : Type 0} (G : Gates A) (file : List ℕ) (inputs : List A) where
         take (c .program .outputs) outputs ≡ take (c .program .outputs) outputs′ →
         (position budget : ℕ) →
         resumeOn G file inputs registers outputs position budget ≡ resumeOn G file inputs registers′ outputs′ position budget
-    unfolding resumeOn
+    unfolding resumeUnder
     resume-front registers′ outputs′ room′ r o position budget =
         rw (
           ok,

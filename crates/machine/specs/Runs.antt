@@ -5,10 +5,11 @@ use lib.Dec.{eqb, ltb}
 use lib.ListN.{length, take, drop, replicate}
 use Rattle.laws.specs.Outcome.{Outcome, refused, gives, refuse, _>>_, _>>=_}
 use Rattle.fields.specs.Refusal.{numberOf}
+use Rattle.programs.specs.Limits.{most-inputs, most-instructions}
 use Rattle.programs.specs.declared.description.Program.{Program}
 use Rattle.programs.specs.declared.description.Instruction.{Instruction}
 use Rattle.machine.specs.Meaning.{Gates, wordGates, State, exec}
-use Rattle.checker.specs.Checks.{checkOf}
+use Rattle.checker.specs.Checks.{checkUnder}
 use Rattle.machine.specs.declared.runs.Run.{Run}
 use Rattle.machine.specs.declared.runs.Ran.{Ran}
 use Rattle.machine.specs.declared.runs.Ran.the-variants as Ran
@@ -54,21 +55,28 @@ module _ {A : Type 0} (G : Gates A) where
     gives tt
 
   -- a start: the program's registers and outputs are 0, and it begins at instruction 0
-  unfoldable pub startOn : List ℕ → List A → List A → List A → ℕ → Outcome (Ended A)
-  startOn file inputs registers outputs budget = do
-    c ← checkOf file
+  unfoldable pub startUnder : ℕ → ℕ → List ℕ → List A → List A → List A → ℕ → Outcome (Ended A)
+  startUnder wide long file inputs registers outputs budget = do
+    c ← checkUnder wide long file
     roomFor (c .program) inputs registers outputs
     gives (runOf (c .instructions) inputs 0 budget
         (record { registers = replicate (c .program .registers) (G .zeros); outputs = replicate (c .program .outputs) (G .zeros) }))
 
   -- a resume: it begins at the position given, and clears nothing
-  unfoldable pub resumeOn : List ℕ → List A → List A → List A → ℕ → ℕ → Outcome (Ended A)
-  resumeOn file inputs registers outputs position budget = do
-    c ← checkOf file
+  unfoldable pub resumeUnder : ℕ → ℕ → List ℕ → List A → List A → List A → ℕ → ℕ → Outcome (Ended A)
+  resumeUnder wide long file inputs registers outputs position budget = do
+    c ← checkUnder wide long file
     refuse 12 (ltb (length (c .instructions)) position)
     roomFor (c .program) inputs registers outputs
     gives (runOf (c .instructions) inputs position budget
         (record { registers = take (c .program .registers) registers; outputs = take (c .program .outputs) outputs }))
+
+  -- both at the limits of a program
+  abbrev pub startOn : List ℕ → List A → List A → List A → ℕ → Outcome (Ended A)
+  startOn = startUnder most-inputs most-instructions
+
+  abbrev pub resumeOn : List ℕ → List A → List A → List A → ℕ → ℕ → Outcome (Ended A)
+  resumeOn = resumeUnder most-inputs most-instructions
 
 abbrev pub startOf : List ℕ → List ℕ → List ℕ → List ℕ → ℕ → Outcome (Ended ℕ)
 startOf = startOn wordGates

@@ -18,7 +18,7 @@ use Rattle.fields.specs.Foreign.{Foreign, kind-first}
 use Rattle.programs.specs.Instructions.{lengthOf, instructionBytes, decodeOf}
 use Rattle.programs.specs.Reading.{length-instruction}
 use Rattle.programs.specs.Inverse.{decode-reads, decode-written}
-use Rattle.programs.specs.Header.{header-length, header-kind, numbersOf, limitsOf, headerOf}
+use Rattle.programs.specs.Header.{header-length, header-kind, numbersOf, limitsOf, headerUnder, headerOf}
 use Rattle.programs.specs.declared.description.Program.{Program}
 use Rattle.programs.specs.declared.description.Instruction.{Instruction}
 
@@ -35,7 +35,7 @@ headerShortFirst file = do
 
 -- ---- the answers that changed
 pub header-changed : (file : List ℕ) → Changed (Foreign header-kind file × Short file) 1 2 (headerShortFirst file) (headerOf file)
-unfolding headerShortFirst headerOf
+unfolding headerShortFirst headerUnder
 header-changed file =
     kind-first header-kind file (Short file) (ltb (length file) header-length)
     (ltb-true (length file) header-length, lt-ltb (length file) header-length) (λ h. omega arith) (limitsOf file (numbersOf file))

@@ -7,7 +7,7 @@ use lib.ListN.{length}
 use Rattle.laws.specs.Outcome.{Outcome, refused, gives, refuse, _>>_}
 use Rattle.fields.specs.Fields.{fieldOf}
 use Rattle.fields.specs.Refusal.{numberOf}
-use Rattle.programs.specs.Limits.{within}
+use Rattle.programs.specs.Limits.{most-inputs, most-instructions, withinUnder}
 use Rattle.programs.specs.Records.{recordBytes}
 use Rattle.programs.specs.Instructions.{instructionBytes}
 use Rattle.programs.specs.declared.description.Program.{Program}
@@ -37,27 +37,39 @@ numbersOf file =
       count = fieldOf file 10 + 65536 * fieldOf file 12;
     }
 
--- a header that is there and of its kind, with the numbers p: refusals 3 and 4
-unfoldable pub limitsOf : List ℕ → Program → Outcome Program
-limitsOf file p = do
-  refuse 3 (not (within p))
+-- a header that is there and of its kind, with the numbers p, where at most `wide` inputs and `long` instructions are allowed: refusals 3
+-- and 4
+unfoldable pub limitsUnder : ℕ → ℕ → List ℕ → Program → Outcome Program
+limitsUnder wide long file p = do
+  refuse 3 (not (withinUnder wide long p))
   refuse 4 (not (eqb (fieldOf file 0) header-length))
   gives p
 
 -- the header at the front of a file: where four bytes are there, the kind is tried before the length (02, order 3); then its numbers
-unfoldable pub headerOf : List ℕ → Outcome Program
-headerOf file = do
+unfoldable pub headerUnder : ℕ → ℕ → List ℕ → Outcome Program
+headerUnder wide long file = do
   refuse 1 (ltb (length file) 4)
   refuse 2 (not (eqb (fieldOf file 2) header-kind))
   refuse 1 (ltb (length file) header-length)
-  limitsOf file (numbersOf file)
+  limitsUnder wide long file (numbersOf file)
+
+-- at the limits of a program
+abbrev pub limitsOf : List ℕ → Program → Outcome Program
+limitsOf = limitsUnder most-inputs most-instructions
+
+abbrev pub headerOf : List ℕ → Outcome Program
+headerOf = headerUnder most-inputs most-instructions
 
 -- writing a header at the front of a buffer of `room` bytes: the bytes that are laid down
-unfoldable pub writeHeaderOf : Program → ℕ → Outcome (List ℕ)
-writeHeaderOf p room = do
-  refuse 3 (not (within p))
+unfoldable pub writeHeaderUnder : ℕ → ℕ → Program → ℕ → Outcome (List ℕ)
+writeHeaderUnder wide long p room = do
+  refuse 3 (not (withinUnder wide long p))
   refuse 13 (ltb room header-length)
   gives (headerBytes p)
+
+-- at the limits of a program
+abbrev pub writeHeaderOf : Program → ℕ → Outcome (List ℕ)
+writeHeaderOf = writeHeaderUnder most-inputs most-instructions
 
 -- the bytes of instructions, one after another
 unfoldable pub codeBytes : List Instruction → List ℕ

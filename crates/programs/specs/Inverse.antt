@@ -18,7 +18,8 @@ use Rattle.programs.specs.Records.{recordBytes}
 use Rattle.programs.specs.Reading.{length-fields, length-instruction, encode-gives}
 use Rattle.programs.specs.Reading.{header-long, header-numbers, write-header-gives}
 use Rattle.programs.specs.Instructions.{ofKind, sizedOf, kindOf, lengthOf, operandsOf, instructionBytes, encodeOf, decodeOf, decodeAt}
-use Rattle.programs.specs.Header.{header-length, header-kind, headerBytes, headerOf, limitsOf, writeHeaderOf, numbersOf}
+use Rattle.programs.specs.Header.{header-length, header-kind, headerBytes, numbersOf}
+use Rattle.programs.specs.Header.{headerUnder, headerOf, limitsUnder, writeHeaderUnder, writeHeaderOf}
 use Rattle.programs.specs.declared.description.Program.{Program}
 use Rattle.programs.specs.declared.description.Instruction.{Instruction}
 use Rattle.programs.specs.declared.description.Instruction.the-variants.{Ones, Zero, Input, Not, And, Or, Output}
@@ -117,7 +118,7 @@ pub record HeaderReads (file : List ℕ) (p : Program) : Type 0 where
   pub numbers : numbersOf file ≡ p
 
 pub header-reads : (file : List ℕ) (p : Program) → headerOf file ≡ gives p → HeaderReads file p
-unfolding headerOf limitsOf
+unfolding headerUnder limitsUnder
 header-reads file p e =
     let c1 = passed 1 (ltb (length file) 4) _ p e in
     let c2 = passed 2 (not (eqb (fieldOf file 2) header-kind)) _ p (c1 .1) in
@@ -162,7 +163,7 @@ unfolding headerBytes recordBytes numbersOf fieldOf
 numbers-written p rest = rw (field-back (p .registers), field-back (p .inputs), field-back (p .outputs), count-back (p .count))
 
 pub header-written : (p : Program) (rest : List ℕ) → within p ≡ true → headerOf (headerBytes p ++ rest) ≡ gives p
-unfolding headerBytes recordBytes fieldOf limitsOf
+unfolding headerBytes recordBytes fieldOf limitsUnder
 header-written p rest w = header-numbers (headerBytes p ++ rest) (omega arith) refl p (numbers-written p rest) ∙ rw w
 
 -- ---- bytes are written back as they are read
@@ -249,7 +250,7 @@ module _ (file : List ℕ) (at : ℕ) (i : Instruction) (byte : (k : ℕ) → ge
 
 write-header-means : (p : Program) (room : ℕ) (bytes : List ℕ) → writeHeaderOf p room ≡ gives bytes →
     (within p ≡ true) × (headerBytes p ≡ bytes)
-unfolding writeHeaderOf
+unfolding writeHeaderUnder
 write-header-means p room bytes e =
     let c1 = passed 3 (not (within p)) _ bytes e in
     let c2 = passed 13 (ltb room header-length) (gives (headerBytes p)) bytes (c1 .1) in

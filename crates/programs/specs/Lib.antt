@@ -6,3 +6,4 @@ pub mod Header
 pub mod Reading
 pub mod Inverse
 pub mod Foreign
+pub mod Raised

@@ -16,13 +16,14 @@ use Rattle.fields.specs.Limits.{outside}
 use Rattle.programs.specs.Limits.{most-registers, most-inputs, most-outputs, most-instructions, among, within}
 use Rattle.programs.specs.Records.{recordBytes, length-record, field-after}
 use Rattle.programs.specs.Instructions.{ofKind, sizedOf, kindOf, lengthOf, operandsOf, instructionBytes, encodeOf, decodeOf, decodeAt}
-use Rattle.programs.specs.Header.{header-length, header-kind, headerBytes, headerOf, limitsOf, writeHeaderOf, numbersOf}
+use Rattle.programs.specs.Header.{header-length, header-kind, headerBytes, numbersOf}
+use Rattle.programs.specs.Header.{headerUnder, headerOf, limitsOf, writeHeaderUnder, writeHeaderOf}
 use Rattle.programs.specs.declared.description.Program.{Program}
 use Rattle.programs.specs.declared.description.Instruction.{Instruction}
 use Rattle.programs.specs.declared.description.Instruction.the-variants.{Ones, Zero, Input, Not, And, Or, Output}
 
 -- ---- the limits
-among-means : (most x : ℕ) → among most x ≡ true → (1 ≤ x) × (x ≤ most)
+pub among-means : (most x : ℕ) → among most x ≡ true → (1 ≤ x) × (x ≤ most)
 among-means most x e =
     let s = neither (ltb x 1) (ltb most x) (not-true (outside most x) e) in
     (ltb-false x 1 (s .0), ltb-false most x (s .1))
@@ -121,36 +122,36 @@ module _ (i : Instruction) (at : ℕ) (buf : List ℕ) where
 -- a file of four bytes or more is tried by its kind, and one under four is too short for that
 module _ (file : List ℕ) where
   pub header-few : length file < 4 → refused 1 ≡ headerOf file
-  unfolding headerOf
+  unfolding headerUnder
   header-few h = rw (lt-ltb (length file) 4 h)
 
   pub header-foreign : 4 ≤ length file → (fieldOf file 2 ≡ header-kind → ⊥) → refused 2 ≡ headerOf file
-  unfolding headerOf
+  unfolding headerUnder
   header-foreign a k = rw (le-ltb (length file) 4 a, ne-eqb (fieldOf file 2) header-kind k)
 
   pub header-short : 4 ≤ length file → fieldOf file 2 ≡ header-kind → length file < header-length → refused 1 ≡ headerOf file
-  unfolding headerOf
+  unfolding headerUnder
   header-short a k h = rw (le-ltb (length file) 4 a, eq-eqb (fieldOf file 2) header-kind k, lt-ltb (length file) header-length h)
 
 -- a file of the kind that has room for a header is tried by what its numbers are
 pub header-numbers : (file : List ℕ) → header-length ≤ length file → fieldOf file 2 ≡ header-kind → (p : Program) → p ≡ numbersOf file →
     headerOf file ≡ limitsOf file p
-unfolding headerOf
+unfolding headerUnder
 header-numbers file h k p is-p =
     rw (le-ltb (length file) 4 (omega arith), eq-eqb (fieldOf file 2) header-kind k, le-ltb (length file) header-length h, is-p)
 
 -- ---- writing a header
 module _ (p : Program) (room : ℕ) where
   pub write-header-outside : within p ≡ false → writeHeaderOf p room ≡ refused 3
-  unfolding writeHeaderOf
+  unfolding writeHeaderUnder
   write-header-outside w = rw w
 
   pub write-header-short : within p ≡ true → room < header-length → writeHeaderOf p room ≡ refused 13
-  unfolding writeHeaderOf
+  unfolding writeHeaderUnder
   write-header-short w h = rw (w, lt-ltb room header-length h)
 
   pub write-header-gives : within p ≡ true → header-length ≤ room → writeHeaderOf p room ≡ gives (headerBytes p)
-  unfolding writeHeaderOf
+  unfolding writeHeaderUnder
   write-header-gives w h = rw (w, le-ltb room header-length h)
 
 -- a header is stored field by field: five fields of a record, then the count's two

@@ -30,14 +30,14 @@ fn among(most: usize, x: usize) -> bool
 }
 
 impl Program {
-    // The most registers, inputs, outputs and instructions.
+    // The most registers, inputs, outputs and instructions; of inputs and instructions since 02, order 8.
     pub const REGISTERS: usize = 1024;
 
-    pub const INPUTS: usize = 128;
+    pub const INPUTS: usize = 192;
 
     pub const OUTPUTS: usize = 8;
 
-    pub const INSTRUCTIONS: u32 = 131_072;
+    pub const INSTRUCTIONS: u32 = 262_144;
 
     // The length of a header, and its kind.
     pub const HEADER: usize = 14;

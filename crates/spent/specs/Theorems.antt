@@ -17,7 +17,7 @@ use Rattle.walk.specs.Used.{drawn-used, drawn-unread}
 use Rattle.walk.specs.Theorems.{walk-is}
 use Rattle.lanes.specs.Slicing.{lanes, stringAt, stringBits}
 use Rattle.lanes.specs.Lanes.{string-bit, string-sound}
-use Rattle.spent.specs.Spent.{usedOn, spentOf}
+use Rattle.spent.specs.Spent.{usedOn, spentUnder, spentOf}
 
 module _ (file : List ℕ) (M : Matrix) (e : matrixOf file ≡ gives M) (strings : List ℕ) where
   -- walking the file on string j, cut out by itself, tells what the walk of M on its bits draws and has used
@@ -39,7 +39,7 @@ module _ (file : List ℕ) (M : Matrix) (e : matrixOf file ≡ gives M) (strings
   module _ (total : ℕ) (g : spentOf file strings ≡ gives total) where
     -- a total is given for strings that are sound, and is the sum of what the 64 walks have used
     given : (stringsOf lanes (M .columns) strings ≡ gives tt) × (gives (sumTo lanes (usedOn M strings)) ≡ gives total)
-    unfolding spentOf
+    unfolding spentUnder
     given = then-gives (stringsOf lanes (M .columns) strings) (gives (sumTo lanes (usedOn M strings))) total (rw e at g)
 
     -- it lies between 64 and 64 × n
@@ -67,7 +67,7 @@ module _ (file : List ℕ) (M : Matrix) (e : matrixOf file ≡ gives M) (strings
     pub spent-unread : (other : List ℕ) → stringsOf lanes (M .columns) other ≡ gives tt →
         ((j i : ℕ) → j < lanes → i < usedOn M strings j →
         bitOf strings (j * width (M .columns)) i ≡ bitOf other (j * width (M .columns)) i) → spentOf file other ≡ gives total
-    unfolding spentOf
+    unfolding spentUnder
     spent-unread other s a = rw (e, s) (ap gives (sum-eq lanes (usedOn M other) (usedOn M strings) same) ∙ given .1)
       where
         same : (j : ℕ) → j < lanes → usedOn M other j ≡ usedOn M strings j

@@ -13,7 +13,7 @@ use Rattle.walk.specs.Walk.{used, usedAt}
 use Rattle.walk.specs.Ways.{drawAt-is}
 use Rattle.walk.specs.Used.{usedAt-most}
 use Rattle.lanes.specs.Slicing.{lanes}
-use Rattle.spent.specs.Spent.{usedOn, spentOf}
+use Rattle.spent.specs.Spent.{usedOn, spentUnder, spentOf}
 
 -- the columns that the walk of the file's rows on string j has used
 abbrev pub usedBy : List ℕ → List ℕ → ℕ → ℕ
@@ -30,7 +30,7 @@ walk-fits file strings n at x a b = rw (a, b) (usedAt-most file strings at)
 -- ---- the file
 module _ (file strings : List ℕ) where
   pub spent-refused : (n : ℕ) → refused n ≡ mapped sizes (matrixOf file) → refused n ≡ spentOf file strings
-  unfolding spentOf
+  unfolding spentUnder
   spent-refused n e = rw (mapped-refused sizes (matrixOf file) n e)
 
   -- what the rows in a file with a matrix add up to is what the matrix does
@@ -45,7 +45,7 @@ module _ (file strings : List ℕ) where
     -- past the matrix's checks
     past-matrix : spentOf file strings ≡
         (stringsOf lanes (s .columns) strings >> gives (sumTo lanes (usedBy file strings)))
-    unfolding spentOf
+    unfolding spentUnder
     past-matrix =
         let g = mapped-gives sizes (matrixOf file) s e in
         let n : g .0 .columns ≡ s .columns = ap (λ (z : Sizes). z .columns) (g .2) in

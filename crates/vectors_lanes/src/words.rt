@@ -19,7 +19,7 @@ use case_lines::parsing::take_words;
 use lanes::Sliced;
 
 // Room for words that are lent.
-const WORDS: usize = 160;
+const WORDS: usize = 224;
 
 fn print_sliced(answer: Sliced, words: &[u64; WORDS], before: &[u64; WORDS]) {
     match answer {

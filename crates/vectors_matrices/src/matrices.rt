@@ -20,7 +20,7 @@ use wanted::Wanted;
 use weights::Usage;
 
 // Room for entries that are lent.
-const ENTRIES: usize = 16448;
+const ENTRIES: usize = 24_640;
 
 // m × n of a matrix.
 fn product(m: usize, n: usize) -> usize {

@@ -15,7 +15,7 @@ use Rattle.laws.specs.Lists.{blocks, upto, upto-eq, length-upto, getD-upto, tak
 use Rattle.laws.specs.Outcome.{refuse, gives, _>>_}
 use Rattle.fields.specs.Fields.{width, packedBit, bitOf, packed, padded, padded-below, padded-above, length-packed, spare, spare-none}
 use Rattle.fields.specs.Limits.{outside, most-columns, inside}
-use Rattle.fields.specs.Strings.{stringsOf}
+use Rattle.fields.specs.Strings.{stringsUnder, stringsOf}
 use Rattle.fields.specs.Fields.{bit-le, packed-bit}
 use Rattle.walk.specs.Strings.{Bits}
 
@@ -26,7 +26,7 @@ packedString n s = packed n (λ i. getD s i 0)
 -- ---- one string: its checks
 pub one-string : (n : ℕ) (bytes : List ℕ) →
     stringsOf 1 n bytes ≡ (refuse 3 (outside most-columns n) >> (refuse 13 (ltb (length bytes) (width n)) >> refuse 5 (spare bytes n 0)))
-unfolding stringsOf any
+unfolding stringsUnder any
 one-string n bytes = rw (one-mul (width n), zero-mul (width n)) (or-false (spare bytes n 0))
   where
     or-false : (b : Bool) → (refuse 3 (outside most-columns n) >> (refuse 13 (ltb (length bytes) (width n)) >> refuse 5 (b || false))) ≡

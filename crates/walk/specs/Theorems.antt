@@ -21,7 +21,8 @@ use Rattle.files.specs.Files.{matrixOf}
 use Rattle.files.specs.Live.{total-from}
 use Rattle.files.specs.RoundTrip.{accepted-bits, read-accepted}
 use Rattle.fields.specs.Strings.{stringsOf}
-use Rattle.walk.specs.Walk.{Drawn, hit, drawn, used, Answer, sample, missed, answerOf, Spending, spendingOf, walkOf, isRow, isMiss}
+use Rattle.walk.specs.Walk.{Drawn, hit, drawn, used, Answer, sample, missed, answerOf, Spending, spendingOf}
+use Rattle.walk.specs.Walk.{walkUnder, walkOf, isRow, isMiss}
 use Rattle.walk.specs.Walk.{hits, misses}
 use Rattle.walk.specs.Steps.{Inside, walk-inside}
 use Rattle.walk.specs.Used.{drawn-used, drawn-unread, told-hit, told-miss}
@@ -132,7 +133,7 @@ module _ (file : List ℕ) (M : Matrix) (e : matrixOf file ≡ gives M) where
   -- the walk of the file on a string that is sound is the walk of its matrix on the string's first n bits
   pub walk-is : (string : List ℕ) → stringsOf 1 (M .columns) string ≡ gives tt →
       walkOf file string ≡ gives (told-of (upto (M .columns) (bitOf string 0)))
-  unfolding walkOf
+  unfolding walkUnder
   walk-is string s = rw (e, s)
 
   pub walk-packed : (s : List ℕ) → Bits (M .columns) s → walkOf file (packedString (M .columns) s) ≡ gives (told-of s)
@@ -176,7 +177,7 @@ module _ (file : List ℕ) (M : Matrix) (e : matrixOf file ≡ gives M) where
 
   -- 3. and bytes beyond those that n bits take do not count
   pub file-front : (bytes more : List ℕ) → width (M .columns) ≤ length bytes → walkOf file (bytes ++ more) ≡ walkOf file bytes
-  unfolding walkOf
+  unfolding walkUnder
   file-front bytes more l =
       let n : ℕ = M .columns in
       let b : upto n (bitOf (bytes ++ more) 0) ≡ upto n (bitOf bytes 0) =
@@ -191,7 +192,7 @@ module _ (file : List ℕ) (M : Matrix) (e : matrixOf file ≡ gives M) where
 
     -- it is what is told of the walk of M on the string's first n bits
     file-told : told-of bits ≡ w
-    unfolding walkOf
+    unfolding walkUnder
     file-told = gives-inj (then-gives (stringsOf 1 (M .columns) string) (gives (told-of bits)) w (rw e at g) .1)
 
     many : length bits ≡ M .columns

@@ -7,10 +7,11 @@ use lib.Dec.{eqb}
 use Rattle.laws.specs.Lists.{upto}
 use Rattle.laws.specs.Outcome.{Outcome, refused, gives, _>>_, _>>=_}
 use Rattle.fields.specs.Fields.{bitOf, fieldOf, width}
+use Rattle.fields.specs.Limits.{most-columns}
 use Rattle.files.specs.Matrix.{Matrix, bit}
-use Rattle.files.specs.Files.{matrixOf}
+use Rattle.files.specs.Files.{matrixUnder}
 use Rattle.fields.specs.Refusal.{numberOf}
-use Rattle.fields.specs.Strings.{stringsOf}
+use Rattle.fields.specs.Strings.{stringsUnder}
 use Rattle.walk.specs.declared.Walked.{Walked}
 use Rattle.walk.specs.declared.Walked.the-variants as Walked
 -- what a walk draws, the code's own type: a row, hit in a column, or nothing
@@ -70,11 +71,15 @@ abbrev pub spendingOf : ℕ → Drawn → Spending
 spendingOf n d = record { answer = answerOf d; used = used n d }
 
 -- walking a matrix file on a packed string: the matrix's checks, then the string's, then the walk on its first n bits
-unfoldable pub walkOf : List ℕ → List ℕ → Outcome Spending
-walkOf file string = do
-  M ← matrixOf file
-  stringsOf 1 (M .columns) string
+unfoldable pub walkUnder : ℕ → List ℕ → List ℕ → Outcome Spending
+walkUnder most file string = do
+  M ← matrixUnder most file
+  stringsUnder most 1 (M .columns) string
   gives (spendingOf (M .columns) (drawn M (upto (M .columns) (bitOf string 0))))
+
+-- at the limit of columns
+abbrev pub walkOf : List ℕ → List ℕ → Outcome Spending
+walkOf = walkUnder most-columns
 
 -- the rows of n bits that are packed behind a file's header
 abbrev pub fileRows : List ℕ → ℕ → ℕ → ℕ → ℕ

@@ -13,7 +13,7 @@ use Rattle.files.specs.Matrix.{Matrix, Sizes, sizes, bit}
 use Rattle.files.specs.Files.{matrixOf}
 use Rattle.files.specs.Checks.{header-says, matrix-read, unpacked-bit}
 use Rattle.fields.specs.Strings.{stringsOf}
-use Rattle.walk.specs.Walk.{hit, miss, sample, missed, drawn, fileRows, drawAt, used, spendingOf, walkOf}
+use Rattle.walk.specs.Walk.{hit, miss, sample, missed, drawn, fileRows, drawAt, used, spendingOf, walkUnder, walkOf}
 use Rattle.walk.specs.Steps.{walk-eq}
 use Rattle.walk.specs.Used.{drawAt-column}
 
@@ -42,13 +42,13 @@ drawAt-is file M e strings at =
 
 module _ (file string : List ℕ) where
   pub walk-refused : (n : ℕ) → refused n ≡ mapped sizes (matrixOf file) → refused n ≡ walkOf file string
-  unfolding walkOf
+  unfolding walkUnder
   walk-refused n e = rw (mapped-refused sizes (matrixOf file) n e)
 
   module _ (s : Sizes) (e : gives s ≡ mapped sizes (matrixOf file)) where
     -- past the matrix's checks
     past-matrix : walkOf file string ≡ (stringsOf 1 (s .columns) string >> gives (spendingOf (s .columns) (drawAt file string 0)))
-    unfolding walkOf
+    unfolding walkUnder
     past-matrix =
         let g = mapped-gives sizes (matrixOf file) s e in
         let n : g .0 .columns ≡ s .columns = ap (λ (z : Sizes). z .columns) (g .2) in

@@ -21,6 +21,7 @@ use case_lines::parsing::size;
 use case_lines::parsing::take_bytes;
 use fields::Refusal;
 use libc::STDOUT_FILENO;
+use rows::WIDTH;
 use rows::highest;
 use rows::print_total;
 use spent::Total;
@@ -50,7 +51,7 @@ fn print_walked(answer: Walked) {
 
 // A string's line.
 fn string_line(text: &[u8], file: &[u8]) {
-    let mut string = [0u8; 16];
+    let mut string = [0u8; WIDTH];
     let n = take_bytes(text, &mut string);
     io::write_all(STDOUT_FILENO, text);
     print_walked(walk::walk(file, &string[..n]));
@@ -68,7 +69,7 @@ fn print_spent(answer: Total) {
 
 // The line of 64 strings.
 fn strings_line(text: &[u8], file: &[u8]) {
-    let mut strings = [0u8; 1024];
+    let mut strings = [0u8; 1536];
     let n = take_bytes(text, &mut strings);
     print_spent(spent::spent(file, &strings[..n]));
 }
@@ -119,7 +120,7 @@ fn carry_out(line: &[u8], file: &mut [u8], size: usize) -> usize
 
 fn main() {
     let mut line = [0u8; LINE];
-    let mut file = [0u8; 2056];
+    let mut file = [0u8; 3080];
     let mut size: usize = 0;
     for passed in 0..LINES {
         let n = next_line(&mut line);

@@ -4,6 +4,9 @@ use case_lines::parsing::least;
 use case_lines::parsing::wide;
 use libc::STDOUT_FILENO;
 
+// The bytes of a row, or of a string, of the most columns.
+pub(crate) const WIDTH: usize = 24;
+
 // The byte at `at`; beyond the end it is 0.
 fn byte(file: &[u8], at: usize) -> usize
     ensures { λ r. ⌜ r < 256 ⌝ }
@@ -41,9 +44,9 @@ fn print_number(top: usize, bytes: &[u8]) {
 pub(crate) fn print_total(file: &[u8]) {
     let rows = fields::field(file, 4);
     let width = fields::width(fields::field(file, 6));
-    let mut sum = [0u8; 16];
+    let mut sum = [0u8; WIDTH];
     let mut carry: usize = 0;
-    let used = least(width, 16);
+    let used = least(width, WIDTH);
     let mut j = used;
     while j > 0 {
         j -= 1;

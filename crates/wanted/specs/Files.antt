@@ -19,14 +19,14 @@ use Rattle.fields.specs.Strings.{stringsOf}
 use Rattle.files.specs.Matrix.{Matrix, p}
 use Rattle.files.specs.Files.{matrixOf}
 use Rattle.files.specs.RoundTrip.{read-accepted}
-use Rattle.walk.specs.Walk.{drawn, hits, isRow, sample, answerOf, used, spendingOf, walkOf}
+use Rattle.walk.specs.Walk.{drawn, hits, isRow, sample, answerOf, used, spendingOf, walkUnder, walkOf}
 use Rattle.walk.specs.declared.Drawn.{Drawn}
 use Rattle.walk.specs.declared.Drawn.the-variants.{Hit as hit, Miss as miss}
 use Rattle.walk.specs.Strings.{Bits}
 use Rattle.walk.specs.Numbers.{numberString, readNumber, number-bits, number-of-string}
 use Rattle.walk.specs.Packed.{packedString, packedString-sound, packedString-bits, read-bits}
 use Rattle.walk.specs.Theorems.{givesThat, walk-is}
-use Rattle.wanted.specs.Wanted.{numberFor, packedNumber, wantedOf, stringFound}
+use Rattle.wanted.specs.Wanted.{numberFor, packedNumber, wantedUnder, wantedOf, stringFound}
 use Rattle.wanted.specs.Theorems.{SmallestString, firstColumn, first-column, number-smallest, smallest-number, none-iff, never-hit}
 
 -- ---- a hit of row v as the answer of a walk
@@ -50,7 +50,7 @@ module _ (file : List ℕ) (M : Matrix) (e : matrixOf file ≡ gives M) (row roo
   answer-iff : (o : Option (List ℕ)) →
       (wantedOf file row room ≡ gives o) ↔
       ((row < M .rows) × (width (M .columns) ≤ room) × (packedNumber (M .columns) (numberFor M row) ≡ o))
-  unfolding wantedOf
+  unfolding wantedUnder
   answer-iff o = (
     (λ g.
         let r = passed 3 (leb (M .rows) row) _ o (rw e at g) in
@@ -99,7 +99,7 @@ module _ (file : List ℕ) (M : Matrix) (e : matrixOf file ≡ gives M) (row roo
   -- bytes are not walked to the row where their bits are not, be they sound or refused
   not-walked : (string : List ℕ) → hits row (drawn M (upto (M .columns) (bitOf string 0))) ≡ false →
       givesThat (isRow row) (walkOf file string) ≡ false
-  unfolding walkOf hits
+  unfolding walkUnder hits
   not-walked string h = rw e (by (stringsOf 1 (M .columns) string))
     where
       by : (o : Outcome (Unit {0})) →

@@ -7,9 +7,10 @@ use lib.Dec.{leb, ltb}
 use Rattle.laws.specs.Smallest.{smallest}
 use Rattle.laws.specs.Outcome.{Outcome, refused, gives, refuse, _>>_, _>>=_}
 use Rattle.fields.specs.Fields.{width}
+use Rattle.fields.specs.Limits.{most-columns}
 use Rattle.fields.specs.Refusal.{numberOf}
 use Rattle.files.specs.Matrix.{Matrix}
-use Rattle.files.specs.Files.{matrixOf}
+use Rattle.files.specs.Files.{matrixUnder}
 use Rattle.walk.specs.Walk.{drawn, hits}
 use Rattle.walk.specs.Numbers.{numberString}
 use Rattle.walk.specs.Packed.{packedString}
@@ -29,12 +30,16 @@ packedNumber n (some x) = some (packedString n (numberString n x))
 
 -- a string for a row, into a buffer of `room` bytes: the matrix's checks, then the row's number, then the room, also where the row is all
 -- zero; then the string, or none
-unfoldable pub wantedOf : List ℕ → ℕ → ℕ → Outcome (Option (List ℕ))
-wantedOf file row room = do
-  M ← matrixOf file
+unfoldable pub wantedUnder : ℕ → List ℕ → ℕ → ℕ → Outcome (Option (List ℕ))
+wantedUnder most file row room = do
+  M ← matrixUnder most file
   refuse 3 (leb (M .rows) row)
   refuse 13 (ltb room (width (M .columns)))
   gives (packedNumber (M .columns) (numberFor M row))
+
+-- at the limit of columns
+abbrev pub wantedOf : List ℕ → ℕ → ℕ → Outcome (Option (List ℕ))
+wantedOf = wantedUnder most-columns
 
 -- whether there is one, and what is laid down: none writes nothing
 abbrev pub stringFound : Option (List ℕ) → Bool

@@ -23,7 +23,7 @@ use Rattle.walk.specs.Ways.{rows-are}
 use Rattle.walk.specs.Numbers.{numberString}
 use Rattle.walk.specs.Packed.{packedString}
 use Rattle.walk.specs.Intervals.{leading, firstNumber}
-use Rattle.wanted.specs.Wanted.{numberFor, packedNumber, wantedOf}
+use Rattle.wanted.specs.Wanted.{numberFor, packedNumber, wantedUnder, wantedOf}
 use Rattle.wanted.specs.Theorems.{firstColumn, firstOf, number-is}
 
 -- ---- the search: no column before c has a 1
@@ -82,7 +82,7 @@ module _ (file : List ℕ) (M : Matrix) (e : matrixOf file ≡ gives M) (row roo
   answer-in-file : width (M .columns) ≤ room → (o : Option ℕ) →
       o ≡ smallest (M .columns) (λ c. eqb (fileRows file (M .columns) row c) 1) →
       wantedOf file row room ≡ gives (packedNumber (M .columns) (firstOf (fileRows file (M .columns)) (M .rows) (M .columns) row o))
-  unfolding wantedOf
+  unfolding wantedUnder
   answer-in-file l o q =
       rw (e, lt-leb (M .rows) row h, le-ltb room (width (M .columns)) l)
       (ap (λ (x : Option ℕ). gives (packedNumber (M .columns) x)) (number-in-file o q))
@@ -90,12 +90,12 @@ module _ (file : List ℕ) (M : Matrix) (e : matrixOf file ≡ gives M) (row roo
 -- ---- the ways through the checks
 module _ (file : List ℕ) (row room : ℕ) where
   pub wanted-refused : (n : ℕ) → refused n ≡ mapped sizes (matrixOf file) → wantedOf file row room ≡ refused n
-  unfolding wantedOf
+  unfolding wantedUnder
   wanted-refused n e = rw (mapped-refused sizes (matrixOf file) n e)
 
   module _ (s : Sizes) (e : gives s ≡ mapped sizes (matrixOf file)) where
     pub wanted-row : s .rows ≤ row → wantedOf file row room ≡ refused 3
-    unfolding wantedOf
+    unfolding wantedUnder
     wanted-row h =
         let g = mapped-gives sizes (matrixOf file) s e in
         let m : g .0 .rows ≡ s .rows = ap (λ (z : Sizes). z .rows) (g .2) in
@@ -103,7 +103,7 @@ module _ (file : List ℕ) (row room : ℕ) where
 
     module _ (h : row < s .rows) where
       pub wanted-room : room < width (s .columns) → wantedOf file row room ≡ refused 13
-      unfolding wantedOf
+      unfolding wantedUnder
       wanted-room l =
           let g = mapped-gives sizes (matrixOf file) s e in
           let m : g .0 .rows ≡ s .rows = ap (λ (z : Sizes). z .rows) (g .2) in

@@ -23,7 +23,7 @@ use Rattle.files.specs.Sizes.{Sized, sizes-within, sizes-refuse}
 use Rattle.files.specs.Checks.{read-room}
 use Rattle.files.specs.Writing.{with-header, Head, Wrote, ends-unheaded, ends-headed}
 use Rattle.files.specs.RoundTrip.{write-read}
-use Rattle.weights.specs.Weights.{counted, sum, share, built, buildOf, quotient}
+use Rattle.weights.specs.Weights.{counted, sum, share, built, buildUnder, buildOf, quotient}
 use Rattle.weights.specs.Division.{Largest, share-largest, largest-near, share-all, quotient-is}
 use Rattle.weights.specs.declared.building.Usage.{Usage}
 
@@ -32,11 +32,11 @@ module _ (usage : Usage) (weights : List ℕ) (n room : ℕ) where
   -- past the sizes, with the header's check for the last
   build-is : sizesOutside (length weights) n ≡ false → buildOf usage weights n room ≡
       (refuse 11 (eqb (sum usage weights) 0) >> mapped (λ h. matrixFile (built usage weights n)) (writeHeaderOf (length weights) n room))
-  unfolding buildOf
+  unfolding buildUnder
   build-is a = sizes-refuse (length weights) n _ ∙ rw (a, with-header (length weights) n room (matrixFile (built usage weights n)) a)
 
   pub build-sizes : sizesOutside (length weights) n ≡ true → buildOf usage weights n room ≡ refused 3
-  unfolding buildOf
+  unfolding buildUnder
   build-sizes a = sizes-refuse (length weights) n _ ∙ rw a
 
   pub build-zero : sizesOutside (length weights) n ≡ false → sum usage weights ≡ 0 → buildOf usage weights n room ≡ refused 11
@@ -144,7 +144,7 @@ module _ (usage : Usage) (weights : List ℕ) (n : ℕ) where
 pub build-iff : (usage : Usage) (weights : List ℕ) (n room : ℕ) (file : List ℕ) → (buildOf usage weights n room ≡ gives file) ↔
     (Sized (length weights) n × (0 < sum usage weights) × (fileLength (length weights) n ≤ room) ×
     (file ≡ matrixFile (built usage weights n)))
-unfolding buildOf
+unfolding buildUnder
 build-iff usage weights n room file = (
   (λ e. let c1 = passed 3 (sizesOutside (length weights) n) _ file (sym (sizes-refuse (length weights) n _) ∙ e) in
       let c2 = passed 11 (eqb (sum usage weights) 0) _ file (c1 .1) in

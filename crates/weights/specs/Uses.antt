@@ -15,7 +15,7 @@ use Rattle.fields.specs.Limits.{outside, most-columns}
 use Rattle.files.specs.Matrix.{tabled, most-rows}
 use Rattle.files.specs.Files.{matrixFile, fileLength}
 use Rattle.files.specs.Writing.{length-file}
-use Rattle.weights.specs.Weights.{counted, sum, share, built, buildOf}
+use Rattle.weights.specs.Weights.{counted, sum, share, built, buildUnder, buildOf}
 use Rattle.weights.specs.Division.{share-double}
 use Rattle.weights.specs.declared.building.Usage.{Usage}
 use Rattle.weights.specs.declared.building.Usage.the-variants.{Plain, Signed}
@@ -106,7 +106,7 @@ weightless-iff usage ws = (
 -- for each use every weight is taken as it counts
 build-counted : (usage : Usage) (ws : List ℕ) (n room : ℕ) →
     buildOf usage ws n room ≡ buildEach (length ws) (λ v. counted usage v (getD ws v 0)) n room
-unfolding buildOf built sum buildEach
+unfolding buildUnder built sum buildEach
 build-counted usage ws n room = refl
 
 -- plain lists are built as before
@@ -188,7 +188,7 @@ answer : (usage : Usage) (ws : List ℕ) (n room : ℕ) → mapped length (build
     (refuse 3 (outside most-columns n) >>
     (refuse 11 (eqb (sum usage ws) 0) >>
     (refuse 13 (ltb room (fileLength (length ws) n)) >> gives (fileLength (length ws) n)))))
-unfolding buildOf built
+unfolding buildUnder built
 answer usage ws n room =
     sym
     (mapped-then (refuse 3 (outside most-rows (length ws))) _ _ length

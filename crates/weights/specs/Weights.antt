@@ -36,14 +36,18 @@ unfoldable pub built : Usage → List ℕ → ℕ → Matrix
 built usage weights n =
     tabled (length weights) n (λ v. digit n (share n (counted usage v (getD weights v 0)) (sum usage weights)))
 
--- building with n columns into a buffer of `room` bytes: the file that is laid down
-unfoldable pub buildOf : Usage → List ℕ → ℕ → ℕ → Outcome (List ℕ)
-buildOf usage weights n room = do
+-- building with n columns, of which at most `most` are allowed, into a buffer of `room` bytes: the file that is laid down
+unfoldable pub buildUnder : ℕ → Usage → List ℕ → ℕ → ℕ → Outcome (List ℕ)
+buildUnder most usage weights n room = do
   refuse 3 (outside most-rows (length weights))
-  refuse 3 (outside most-columns n)
+  refuse 3 (outside most n)
   refuse 11 (eqb (sum usage weights) 0)
   refuse 13 (ltb room (fileLength (length weights) n))
   gives (matrixFile (built usage weights n))
+
+-- at the limit of columns
+abbrev pub buildOf : Usage → List ℕ → ℕ → ℕ → Outcome (List ℕ)
+buildOf = buildUnder most-columns
 
 -- ---- long division by s: each step doubles what is left, and takes s away where it fits
 unfoldable pub next-rest : ℕ → ℕ → ℕ

@@ -7,7 +7,7 @@ use super::line::Line;
 use super::sound::around;
 use crate::cumulative::{LEAST_NUMBERS, MOST_NUMBERS, MOST_TABLE_COLUMNS};
 use crate::damage::{edited, matrix_edits, Edit};
-use crate::matrix::{file_length, Matrix};
+use crate::matrix::{file_length, Matrix, MOST_COLUMNS};
 use crate::random::{self, Random};
 use crate::tables::{document_001, document_002, document_004, document_004_cut};
 
@@ -307,7 +307,7 @@ pub fn thorough(put: &mut dyn FnMut(Line)) {
             }
         }
     }
-    for columns in 1..=128 {
+    for columns in 1..=MOST_COLUMNS {
         let ones = "1".repeat(columns);
         put(export(&Matrix::from_texts(&[&ones]).encode(), 2));
     }

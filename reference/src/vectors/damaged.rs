@@ -6,8 +6,8 @@ use super::line::Line;
 use super::sound::around;
 use crate::compiler::translate;
 use crate::damage::{
-    cuts, edited, instruction_edits, matrix_edits, program_edits, program_header_edits,
-    turned_bits, Edit,
+    cuts, edited, instruction_edits, matrix_edits, matrix_limit_edits, program_edits,
+    program_header_edits, program_limit_edits, turned_bits, Edit,
 };
 use crate::matrix::Matrix;
 use crate::program::{Program, PROGRAM_HEADER};
@@ -123,6 +123,7 @@ pub fn thorough(put: &mut dyn FnMut(Line)) {
     let wide = Matrix::from_texts(&["10000000001", "01111111111"]).encode();
     for file in [small_matrix(), wide] {
         let edits = matrix_edits(&file).into_iter().chain(cuts(&file));
+        let edits = edits.chain(matrix_limit_edits(&file));
         for edit in edits.chain(turned_bits(&file)) {
             let damaged = edited(&file, &[edit]);
             put(read(&damaged, 22));
@@ -136,6 +137,7 @@ pub fn thorough(put: &mut dyn FnMut(Line)) {
     let three = translate(&Matrix::from_texts(&["10", "01", "01"])).encode();
     for file in [least_program(), three] {
         let edits = program_edits(&file).into_iter().chain(cuts(&file));
+        let edits = edits.chain(program_limit_edits(&file));
         for edit in edits.chain(turned_bits(&file)) {
             put(check(&edited(&file, &[edit])));
         }

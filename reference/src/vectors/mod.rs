@@ -3,9 +3,11 @@
 
 pub mod answer;
 pub mod cases;
+mod columns;
 mod cumulative;
 mod damaged;
 mod foreign;
+mod instructions;
 pub mod line;
 mod runs;
 mod sound;
@@ -18,10 +20,16 @@ use crate::random::Random;
 use line::Line;
 
 /// No line is longer than this, with its end.
-pub const LONGEST_LINE: usize = 8_192;
+pub const LONGEST_LINE: usize = 12_288;
 
 /// The seed from which all random cases come.
 const SEED: u64 = 0x0c02_b401_1077;
+
+/// The most columns, and inputs, before 02, order 8. The cases that were made then keep to them, so
+/// that every line stays what it was; `columns` and `instructions` have those above.
+const COLUMNS_BEFORE: usize = 128;
+/// The most instructions before it, likewise.
+const INSTRUCTIONS_BEFORE: usize = 131_072;
 
 /// What is left of the sign `=` in every vector, in order: the fixed cases, with more of them where
 /// `scale` is above 1, and as many rounds of random cases as `scale` says.
@@ -36,6 +44,8 @@ pub fn each_given(scale: usize, mut visit: impl FnMut(&str)) {
     cumulative::fixed(&mut Random::new(SEED), &mut put);
     weights::fixed(&mut put);
     wanted::fixed(&mut Random::new(SEED), &mut put);
+    columns::fixed(&mut Random::new(SEED), &mut put);
+    instructions::fixed(&mut Random::new(SEED), &mut put);
     if scale > 1 {
         damaged::thorough(&mut put);
         foreign::thorough(&mut put);
@@ -44,6 +54,8 @@ pub fn each_given(scale: usize, mut visit: impl FnMut(&str)) {
         cumulative::thorough(&mut put);
         weights::thorough(&mut put);
         wanted::thorough(&mut put);
+        columns::thorough(&mut put);
+        instructions::thorough(&mut put);
     }
     for round in 1..=scale {
         let random = &mut Random::new(SEED + round as u64);
@@ -54,5 +66,7 @@ pub fn each_given(scale: usize, mut visit: impl FnMut(&str)) {
         cumulative::round(random, &mut put);
         weights::round(random, &mut put);
         wanted::round(random, &mut put);
+        columns::round(random, &mut put);
+        instructions::round(random, &mut put);
     }
 }

@@ -2,10 +2,11 @@
 
 use super::cases::{check, draw, draw_signed, resume, samples, signed_samples, slice, start, Long};
 use super::line::Line;
+use super::{COLUMNS_BEFORE, INSTRUCTIONS_BEFORE};
 use crate::compiler::translate;
 use crate::machine;
 use crate::matrix::Matrix;
-use crate::program::{Header, Instruction, Operation, Program, MOST_INSTRUCTIONS};
+use crate::program::{Header, Instruction, Operation, Program};
 use crate::random::{self, Random};
 
 /// The words on which the listed program runs.
@@ -32,18 +33,18 @@ pub fn fixed(put: &mut dyn FnMut(Line)) {
     }
     lent_words(put);
     for (count, times) in [
-        (MOST_INSTRUCTIONS, FILLING - 1),
-        (MOST_INSTRUCTIONS, FILLING + 1),
-        (MOST_INSTRUCTIONS + 1, FILLING + 1),
+        (INSTRUCTIONS_BEFORE, FILLING - 1),
+        (INSTRUCTIONS_BEFORE, FILLING + 1),
+        (INSTRUCTIONS_BEFORE + 1, FILLING + 1),
     ] {
         put(long_program(count, &LONG_NOT, times).check());
     }
-    let longest = long_program(MOST_INSTRUCTIONS, &LONG_NOT, FILLING);
+    let longest = long_program(INSTRUCTIONS_BEFORE, &LONG_NOT, FILLING);
     put(longest.check());
-    put(longest.start(&[0x5555; 128], u32::MAX));
+    put(longest.start(&[0x5555; COLUMNS_BEFORE], u32::MAX));
 }
 
-/// The listed program resumed everywhere, and the longest programs stopped at several places.
+/// The listed program resumed everywhere, and long programs stopped at several places.
 pub fn thorough(put: &mut dyn FnMut(Line)) {
     let listed = listed_program();
     for position in (0..=14).chain([65_536, u32::MAX]) {
@@ -52,13 +53,13 @@ pub fn thorough(put: &mut dyn FnMut(Line)) {
         }
     }
     for middle in [&LONG_NOT[..], &LONG_AND] {
-        let long = long_program(MOST_INSTRUCTIONS, middle, FILLING);
+        let long = long_program(INSTRUCTIONS_BEFORE, middle, FILLING);
         for budget in [
             0, 1, 2, 65_535, 65_536, 131_062, 131_063, 131_064, 131_071, 131_072,
         ] {
-            put(long.start(&[0x5555; 128], budget));
+            put(long.start(&[0x5555; COLUMNS_BEFORE], budget));
         }
-        put(long.start(&[0x5555; 127], 0));
+        put(long.start(&[0x5555; COLUMNS_BEFORE - 1], 0));
     }
 }
 
@@ -123,18 +124,18 @@ fn lent_words(put: &mut dyn FnMut(Line)) {
 /// The outputs of a long program.
 const LONG_OUTPUTS: usize = 8;
 /// The instructions between its first one and those that set its outputs.
-const FILLING: usize = MOST_INSTRUCTIONS - 1 - LONG_OUTPUTS;
+const FILLING: usize = INSTRUCTIONS_BEFORE - 1 - LONG_OUTPUTS;
 /// NOT 1023 1023.
 const LONG_NOT: [u8; 8] = [8, 0, 4, 0, 255, 3, 255, 3];
 /// AND 1022 1023 1023.
 const LONG_AND: [u8; 10] = [10, 0, 5, 0, 254, 3, 255, 3, 255, 3];
 
-/// A program with the most registers, inputs and outputs: INPUT 1023 127, then one instruction over
-/// and over, then every output from register 1023.
+/// A program with the most registers and outputs, and of 128 inputs: INPUT 1023 127, then one
+/// instruction over and over, then every output from register 1023.
 fn long_program(count: usize, middle: &[u8], times: usize) -> Long {
     let header = Header {
         registers: 1_024,
-        inputs: 128,
+        inputs: COLUMNS_BEFORE,
         outputs: LONG_OUTPUTS,
         count,
     };
@@ -144,7 +145,8 @@ fn long_program(count: usize, middle: &[u8], times: usize) -> Long {
         times,
         last: Vec::new(),
     };
-    Instruction::new(Operation::Input, &[1_023, 127]).encode(&mut long.first);
+    let last = COLUMNS_BEFORE - 1;
+    Instruction::new(Operation::Input, &[1_023, last]).encode(&mut long.first);
     for output in 0..LONG_OUTPUTS {
         Instruction::new(Operation::Output, &[output, 1_023]).encode(&mut long.last);
     }
@@ -214,7 +216,7 @@ fn some_words(random: &mut Random, number: usize) -> Vec<u64> {
 /// Strings to slice: sound ones, short ones, ones with a spare bit.
 fn string_words(random: &mut Random, put: &mut dyn FnMut(Line)) {
     let columns = if random.once_in(4) {
-        random.between(33, 128)
+        random.between(33, COLUMNS_BEFORE)
     } else {
         random.between(1, 32)
     };

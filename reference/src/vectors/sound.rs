@@ -3,8 +3,9 @@
 
 use super::cases::{build, compile, draws, read, rewrite, spent, stops, walk, write};
 use super::line::Line;
+use super::COLUMNS_BEFORE;
 use crate::compiler::translate;
-use crate::extremes::longest_program;
+use crate::extremes::longest_program_of;
 use crate::matrix::{file_length, Matrix};
 use crate::random::{self, Random};
 use crate::record::pack;
@@ -20,7 +21,7 @@ pub fn fixed(random: &mut Random, put: &mut dyn FnMut(Line)) {
         whole(random, &table, put);
         staged(random, &table, put);
     }
-    whole(random, &longest_program(), put);
+    whole(random, &longest_program_of(COLUMNS_BEFORE), put);
     for (rows, columns) in [
         (1, 1),
         (1, 2),
@@ -55,16 +56,16 @@ pub fn round(random: &mut Random, put: &mut dyn FnMut(Line)) {
         whole(random, &matrix, put);
         staged(random, &matrix, put);
     }
-    let matrix = random::any_matrix(random);
+    let matrix = random::any_matrix_within(random, COLUMNS_BEFORE);
     whole(random, &matrix, put);
-    let matrix = random::any_matrix(random);
+    let matrix = random::any_matrix_within(random, COLUMNS_BEFORE);
     staged(random, &matrix, put);
     not_accepted(random, put);
     weights(random, put);
 }
 
 /// Each operation that takes a matrix, with what is lent a little short, exact or long.
-fn single(random: &mut Random, matrix: &Matrix, put: &mut dyn FnMut(Line)) {
+pub fn single(random: &mut Random, matrix: &Matrix, put: &mut dyn FnMut(Line)) {
     let file = matrix.encode();
     let entries = &matrix.entries;
     put(read(&file, around(random, entries.len())));
@@ -87,7 +88,7 @@ pub fn around(random: &mut Random, length: usize) -> usize {
 }
 
 /// The whole way of a matrix: its program, the samples of 64 strings, and the bits that they spend.
-fn whole(random: &mut Random, matrix: &Matrix, put: &mut dyn FnMut(Line)) {
+pub fn whole(random: &mut Random, matrix: &Matrix, put: &mut dyn FnMut(Line)) {
     let file = matrix.encode();
     put(compile(&file, translate(matrix).length()));
     let strings = random::strings(random, matrix);
@@ -124,7 +125,7 @@ fn not_accepted(random: &mut Random, put: &mut dyn FnMut(Line)) {
         let given = random.between(entries.len() - 1, entries.len());
         put(write(rows, columns, &entries[..given], 4_096));
     }
-    let (rows, columns) = random::sizes(random);
+    let (rows, columns) = random::sizes_within(random, COLUMNS_BEFORE);
     if rows * columns <= MOST_ENTRIES {
         let matrix = random::matrix(random, rows, columns);
         put(write(
@@ -139,12 +140,12 @@ fn not_accepted(random: &mut Random, put: &mut dyn FnMut(Line)) {
 /// Weights of all kinds, with what is lent a little short, exact or long.
 fn weights(random: &mut Random, put: &mut dyn FnMut(Line)) {
     for _ in 0..8 {
-        let (number, columns) = (random.between(1, 9), random.between(1, 128));
+        let (number, columns) = (random.between(1, 9), random.between(1, COLUMNS_BEFORE));
         let list = random::weights(random, number);
         let file_lent = around(random, file_length(number, columns));
         put(build(&list, columns, random.bit() == 1, file_lent));
     }
-    let (number, columns) = random::sizes(random);
+    let (number, columns) = random::sizes_within(random, COLUMNS_BEFORE);
     let list = random::weights(random, number);
     put(build(
         &list,

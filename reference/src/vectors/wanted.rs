@@ -5,9 +5,10 @@
 use super::cases::string_for;
 use super::line::Line;
 use super::sound::around;
+use super::COLUMNS_BEFORE;
 use crate::damage::{edited, matrix_edits};
-use crate::extremes::longest_program;
-use crate::matrix::Matrix;
+use crate::extremes::longest_program_of;
+use crate::matrix::{Matrix, MOST_COLUMNS};
 use crate::random::{self, Random};
 use crate::record::packed_length;
 use crate::tables::{document_001, document_002, document_004};
@@ -53,7 +54,7 @@ const NO_ROWS: [usize; 12] = [
 ];
 
 /// The bytes of a matrix's string.
-fn exact(matrix: &Matrix) -> usize {
+pub fn exact(matrix: &Matrix) -> usize {
     packed_length(matrix.columns)
 }
 
@@ -66,14 +67,14 @@ fn some_rows(matrix: &Matrix, rows: &[usize], put: &mut dyn FnMut(Line)) {
 }
 
 /// A string for each row.
-fn all_rows(matrix: &Matrix, put: &mut dyn FnMut(Line)) {
+pub fn all_rows(matrix: &Matrix, put: &mut dyn FnMut(Line)) {
     let rows: Vec<usize> = (0..matrix.rows).collect();
     some_rows(matrix, &rows, put);
 }
 
 /// Two rows of so many columns that add up to 2^n: the last column alone, and all of them. The
 /// string of all ones alone hits the first.
-fn one_and_ones(columns: usize) -> Matrix {
+pub fn one_and_ones(columns: usize) -> Matrix {
     let one = format!("{}1", "0".repeat(columns - 1));
     Matrix::from_texts(&[&one, &"1".repeat(columns)])
 }
@@ -88,7 +89,9 @@ pub fn fixed(random: &mut Random, put: &mut dyn FnMut(Line)) {
     }
     many_rows(random, put);
     documents(put);
-    rooms(put);
+    for columns in [2, 8, 9, 128] {
+        rooms(columns, put);
+    }
     refusals(put);
 }
 
@@ -100,7 +103,7 @@ fn many_rows(random: &mut Random, put: &mut dyn FnMut(Line)) {
     let mut tall = ["0"; 128];
     (tall[0], tall[127]) = ("1", "1");
     some_rows(&Matrix::from_texts(&tall), &[0, 1, 126, 127], put);
-    some_rows(&longest_program(), &[0, 127], put);
+    some_rows(&longest_program_of(COLUMNS_BEFORE), &[0, 127], put);
     let largest = random::matrix_of_parts(random, 128, 128, true);
     some_rows(&largest, &[0, 127], put);
 }
@@ -114,16 +117,14 @@ fn documents(put: &mut dyn FnMut(Line)) {
 
 /// What is lent one short, exact and longer: for a row that the string of all ones alone hits, and
 /// for one that none hits.
-fn rooms(put: &mut dyn FnMut(Line)) {
-    for columns in [2, 8, 9, 128] {
-        let mut matrix = one_and_ones(columns);
-        matrix.rows += 1;
-        matrix.entries.resize(3 * columns, 0);
-        let (file, exact) = (matrix.encode(), exact(&matrix));
-        for row in [0, 2] {
-            for string_lent in [exact - 1, exact, exact + 1] {
-                put(string_for(&file, row, string_lent));
-            }
+pub fn rooms(columns: usize, put: &mut dyn FnMut(Line)) {
+    let mut matrix = one_and_ones(columns);
+    matrix.rows += 1;
+    matrix.entries.resize(3 * columns, 0);
+    let (file, exact) = (matrix.encode(), exact(&matrix));
+    for row in [0, 2] {
+        for string_lent in [exact - 1, exact, exact + 1] {
+            put(string_for(&file, row, string_lent));
         }
     }
 }
@@ -162,7 +163,7 @@ pub fn thorough(put: &mut dyn FnMut(Line)) {
             }
         }
     }
-    for columns in 1..=128 {
+    for columns in 1..=MOST_COLUMNS {
         all_rows(&one_and_ones(columns), put);
     }
 }
@@ -177,7 +178,7 @@ pub fn round(random: &mut Random, put: &mut dyn FnMut(Line)) {
         put(string_for(&matrix.encode(), row, string_lent));
         put(faulty(random, &matrix));
     }
-    let matrix = random::any_matrix(random);
+    let matrix = random::any_matrix_within(random, COLUMNS_BEFORE);
     let row = random.below(matrix.rows);
     some_rows(&matrix, &[row], put);
 }

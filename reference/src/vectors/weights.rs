@@ -6,6 +6,7 @@ use super::cases::{build, draws, walk};
 use super::line::Line;
 use super::sound::around;
 use super::worked::{in_turn, EDGES};
+use super::COLUMNS_BEFORE;
 use crate::matrix::file_length;
 use crate::random::{self, Random};
 use crate::weights;
@@ -154,7 +155,7 @@ pub fn thorough(put: &mut dyn FnMut(Line)) {
 /// Random cases: each list for both uses, with what is lent a little short, exact or long.
 pub fn round(random: &mut Random, put: &mut dyn FnMut(Line)) {
     for case in 0..6 {
-        let (any, columns) = random::sizes(random);
+        let (any, columns) = random::sizes_within(random, COLUMNS_BEFORE);
         let number = if case == 0 { any } else { random.between(1, 9) };
         let list = random::distance_weights(random, number);
         for signed in USES {

@@ -6,8 +6,8 @@ use super::line::Line;
 use crate::compiler::{self, VALUE_BIT_CASES};
 use crate::matrix::{file_length, Matrix};
 
-/// Sizes around the limits of rows and columns, and sizes that a field of 16 bits, or a number of
-/// 32, would take for sound ones.
+/// Sizes around the limit of rows, which was that of columns too, and sizes that a field of 16 bits,
+/// or a number of 32, would take for sound ones.
 pub const EDGES: [usize; 10] = [
     0,
     1,
@@ -36,7 +36,7 @@ pub fn fixed(put: &mut dyn FnMut(Line)) {
 }
 
 /// The matrix file of rows written as texts.
-fn file_of(texts: &[&str]) -> Vec<u8> {
+pub fn file_of(texts: &[&str]) -> Vec<u8> {
     Matrix::from_texts(texts).encode()
 }
 
@@ -51,7 +51,7 @@ pub fn in_turn(bits: usize) -> Vec<u8> {
 }
 
 /// A file with this header, whatever it says, and bytes of 0 after it.
-fn file_with(length: u16, kind: u16, rows: u16, columns: u16, bytes: usize) -> Vec<u8> {
+pub fn file_with(length: u16, kind: u16, rows: u16, columns: u16, bytes: usize) -> Vec<u8> {
     let fields = [length, kind, rows, columns];
     let mut file: Vec<u8> = fields
         .iter()
@@ -106,12 +106,17 @@ fn matrices(put: &mut dyn FnMut(Line)) {
     put(read(&file_with(8, 32, 1, 129, 1), 0));
     // T = 2^n, and T = 2^n + 1, where a sum in 64 or 128 bits would be 0 or 1.
     for columns in [63, 64, 65, 127, 128] {
-        let half = format!("1{}", "0".repeat(columns - 1));
-        let one = format!("{}1", "0".repeat(columns - 1));
-        put(read(&file_of(&[&half, &half]), 256));
-        put(read(&file_of(&[&half, &half, &one]), 384));
-        put(rewrite(&file_of(&[&half, &half])));
+        totals(columns, 128, put);
     }
+}
+
+/// Two rows that add up to 2^n, and a third that is 1, with room for the entries of so many columns.
+pub fn totals(columns: usize, room: usize, put: &mut dyn FnMut(Line)) {
+    let half = format!("1{}", "0".repeat(columns - 1));
+    let one = format!("{}1", "0".repeat(columns - 1));
+    put(read(&file_of(&[&half, &half]), 2 * room));
+    put(read(&file_of(&[&half, &half, &one]), 3 * room));
+    put(rewrite(&file_of(&[&half, &half])));
 }
 
 fn weights(put: &mut dyn FnMut(Line)) {

@@ -240,18 +240,29 @@ fn files_are_refused(random: &mut Random) {
         let half = half(columns);
         Matrix::from_texts(&vec![half.as_str(); rows]).encode()
     };
-    for (columns, room, number) in [(63, 2, 13), (63, 3, 0), (63, 4, 0), (64, 0, 3), (64, 3, 3)] {
+    for (columns, room, number) in [
+        (63, 2, 13),
+        (63, 3, 0),
+        (63, 4, 0),
+        (64, 0, 3),
+        (64, 3, 3),
+        (129, 0, 3),
+        (192, 0, 3),
+        (192, 3, 3),
+    ] {
         let returned = export_on(&mut trial, random, &of(2, columns), room);
         must(&format!("export with n = {columns}"), number, returned);
     }
-    for columns in [2, 63, 64, 128] {
+    for columns in [2, 63, 64, 128, 129, 192] {
         let returned = export_on(&mut trial, random, &of(3, columns), 0);
         must("export of a sum above 2^n", 6, returned);
     }
-    let mut spare = of(2, 65);
-    *spare.last_mut().expect("a file has bytes") |= 1;
-    let returned = export_on(&mut trial, random, &spare, 0);
-    must("export of a spare bit with n = 65", 5, returned);
+    for columns in [65, 129, 191] {
+        let mut spare = of(2, columns);
+        *spare.last_mut().expect("a file has bytes") |= 1;
+        let returned = export_on(&mut trial, random, &spare, 0);
+        must("export of a spare bit", 5, returned);
+    }
 }
 
 /// Every r of a table with a row of 0 and misses, and of the table of source document 004 the first and the last of every sample.

@@ -2,8 +2,10 @@
 //! the checks.
 
 use crate::inputs::{set_spare_bit, SIXTEEN_BITS};
-use reference::damage::{matrix_edits, program_edits, Edit};
-use reference::matrix::{self, MATRIX_HEADER};
+use reference::damage::{
+    matrix_edits, matrix_limit_edits, program_edits, program_limit_edits, Edit,
+};
+use reference::matrix::{self, MATRIX_HEADER, MOST_COLUMNS, MOST_ROWS};
 use reference::program::{
     self, MOST_INPUTS, MOST_INSTRUCTIONS, MOST_OUTPUTS, MOST_REGISTERS, PROGRAM_HEADER,
 };
@@ -52,7 +54,7 @@ pub fn of_matrix(random: &mut Random, file: &mut Vec<u8>) {
         8 => more_ones(random, file),
         9 => swap_fields(random, file, 4),
         10 => foreign(random, file, any_program),
-        _ => any_edit(random, file, matrix::check(file).is_ok(), matrix_edits),
+        _ => any_edit(random, file, matrix::check(file).is_ok(), edits_of_matrix),
     }
 }
 
@@ -73,8 +75,18 @@ pub fn of_program(random: &mut Random, file: &mut Vec<u8>) {
         13 => move_instruction(random, file),
         14 => swap_fields(random, file, 7),
         15 => foreign(random, file, any_matrix),
-        _ => any_edit(random, file, program::check(file).is_ok(), program_edits),
+        _ => any_edit(random, file, program::check(file).is_ok(), edits_of_program),
     }
+}
+
+/// The reference's edits of a matrix file, also those next to the limit of its columns.
+fn edits_of_matrix(file: &[u8]) -> Vec<Edit> {
+    [matrix_edits(file), matrix_limit_edits(file)].concat()
+}
+
+/// The reference's edits of a program file, also those next to the limits of its inputs and instructions.
+fn edits_of_program(file: &[u8]) -> Vec<Edit> {
+    [program_edits(file), program_limit_edits(file)].concat()
 }
 
 /// 1: only the first bytes.
@@ -126,8 +138,9 @@ fn any_program(random: &mut Random) -> Vec<u8> {
 
 /// 3: rows or columns outside, and in some of the cases a length field that goes with them.
 fn matrix_size(random: &mut Random, file: &mut Vec<u8>) {
-    let value = random.pick(&[0, 129, 130, 255, 256, 257, 384, 32_769, 65_535]);
-    set(file, random.pick(&[4, 6]), value);
+    let (at, most) = random.pick(&[(4, MOST_ROWS), (6, MOST_COLUMNS)]);
+    let outside = [0, most + 1, most + 2, 255, 256, 257, 448, 32_769, 65_535];
+    set(file, at, random.pick(&outside));
     if random.once_in(3) {
         required_length(file);
     }
@@ -145,8 +158,8 @@ fn matrix_length(random: &mut Random, file: &mut Vec<u8>) {
     match random.below(4) {
         0 => set(file, 0, less),
         1 => set(file, 0, random.pick(&[0, 7, 8])),
-        2 => set(file, 4, random.between(1, 128)),
-        _ => set(file, 6, random.between(1, 128)),
+        2 => set(file, 4, random.between(1, MOST_ROWS)),
+        _ => set(file, 6, random.between(1, MOST_COLUMNS)),
     }
 }
 
@@ -229,6 +242,10 @@ fn count(random: &mut Random, file: &mut Vec<u8>) {
     let less = random.below(held + 1);
     let count = random.pick(&[held + 1, held + 2, held.saturating_sub(1), less, 0]);
     set(file, 10, count);
+    // up to three times 65,536 more are within the limit, and refused only where they are missing
+    if random.once_in(8) {
+        set(file, 12, random.between(1, 3));
+    }
 }
 
 /// Where the instructions begin, as far as their lengths lead.

@@ -16,10 +16,10 @@ const SHORT: u32 = 1;
 const FOREIGN: u32 = 2;
 
 /// Gives a file to a function, with nothing else lent.
-type Call = fn(&mut Trial, &mut Random, &[u8]) -> u32;
+pub type Call = fn(&mut Trial, &mut Random, &[u8]) -> u32;
 
 /// The functions that take a matrix file.
-const OF_MATRIX: [(&str, Call); 6] = [
+pub const OF_MATRIX: [(&str, Call); 6] = [
     ("read", |trial, random, file| {
         read_on(trial, random, file, 0)
     }),
@@ -27,7 +27,7 @@ const OF_MATRIX: [(&str, Call); 6] = [
         walk_on(trial, random, file, &[]).0
     }),
     ("spent", |trial, random, file| {
-        spent_on(trial, random, file, &[])
+        spent_on(trial, random, file, &[]).0
     }),
     ("string_for", |trial, random, file| {
         string_for_on(trial, random, file, usize::MAX, &[]).0
@@ -41,7 +41,7 @@ const OF_MATRIX: [(&str, Call); 6] = [
 ];
 
 /// The functions that take a program file.
-const OF_PROGRAM: [(&str, Call); 5] = [
+pub const OF_PROGRAM: [(&str, Call); 5] = [
     ("check", check_on),
     ("start", |trial, random, file| {
         start_on(trial, random, file, &Words::default(), 0)

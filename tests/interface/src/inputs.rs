@@ -9,10 +9,14 @@ use reference::program::{
 };
 use reference::random::{self, Random};
 use reference::record::packed_length;
-use reference::tables::{document_001, document_002, document_004};
+use reference::tables::{document_001, document_002, document_002_fine, document_004};
 
-/// Sizes at which something changes: the smallest, around a byte, and the largest.
-const EDGES: [usize; 7] = [1, 2, 7, 8, 9, 127, 128];
+/// Rows at which something changes: the fewest, around a byte, and the most.
+const ROWS: [usize; 7] = [1, 2, 7, 8, 9, 127, 128];
+/// Columns at which something changes: the fewest, around a byte and a word, the most before 02, order 8, and the most.
+pub const COLUMNS: [usize; 13] = [1, 2, 7, 8, 9, 63, 64, 65, 127, 128, 129, 191, 192];
+/// The most instructions before 02, order 8.
+const INSTRUCTIONS_BEFORE: usize = 131_072;
 
 /// So much more looks like nothing more in 16 bits.
 pub const SIXTEEN_BITS: usize = 65_536;
@@ -25,19 +29,22 @@ pub struct Stock {
 
 impl Stock {
     pub fn new(random: &mut Random) -> Self {
-        let pairs = EDGES.iter().flat_map(|&m| EDGES.map(|n| (m, n)));
+        let pairs = ROWS.iter().flat_map(|&m| COLUMNS.map(|n| (m, n)));
         let mut matrices: Vec<Matrix> = pairs.map(|(m, n)| random::matrix(random, m, n)).collect();
-        matrices.extend([document_001(), document_002(), document_004()]);
+        matrices.extend([document_001(), document_002(), document_002_fine()]);
+        matrices.push(document_004());
         matrices.push(longest_program());
         let compiled = matrices.iter().map(|matrix| translate(matrix).encode());
         let mut programs: Vec<Vec<u8>> = compiled.collect();
-        programs.extend([MOST_INSTRUCTIONS, MOST_INSTRUCTIONS + 1].map(long_program));
+        for most in [INSTRUCTIONS_BEFORE, MOST_INSTRUCTIONS] {
+            programs.extend([most, most + 1].map(long_program));
+        }
         Stock { matrices, programs }
     }
 }
 
 /// A program of so many instructions, with the most registers, inputs and outputs.
-fn long_program(count: usize) -> Vec<u8> {
+pub fn long_program(count: usize) -> Vec<u8> {
     let header = Header {
         registers: MOST_REGISTERS,
         inputs: MOST_INPUTS,
@@ -60,9 +67,9 @@ fn long_program(count: usize) -> Vec<u8> {
 /// Rows and columns: mostly small ones, or an edge beside a small one, or two edges.
 fn sizes(random: &mut Random) -> (usize, usize) {
     match random.below(20) {
-        0 => (random.pick(&EDGES), random.pick(&EDGES)),
-        1 | 2 => (random.pick(&EDGES), random.between(1, 9)),
-        3 | 4 => (random.between(1, 9), random.pick(&EDGES)),
+        0 => (random.pick(&ROWS), random.pick(&COLUMNS)),
+        1 | 2 => (random.pick(&ROWS), random.between(1, 9)),
+        3 | 4 => (random.between(1, 9), random.pick(&COLUMNS)),
         5 => random::sizes(random),
         _ => (random.between(1, 9), random.between(1, 17)),
     }

@@ -1,7 +1,7 @@
 //! The operations on lanes: slice, samples, signed samples, and the draws, which take a program too.
 
 use crate::faults::field_or_0;
-use crate::inputs::{fit, length, outside, set_spare_bit, strings, Stock, SIXTEEN_BITS};
+use crate::inputs::{fit, length, outside, set_spare_bit, strings, Stock, COLUMNS, SIXTEEN_BITS};
 use crate::memory::Memory;
 use crate::programs::some_program;
 use crate::trial::Trial;
@@ -28,17 +28,29 @@ pub fn string_faults(random: &mut Random, strings: &mut Vec<u8>, columns: usize)
 
 pub fn slice(trial: &mut Trial, random: &mut Random, _: &Stock) {
     let (small, any) = (random.between(1, 17), random.between(1, MOST_COLUMNS));
-    let mut columns = random.pick(&[1, 2, 7, 8, 9, 127, 128, small, small, small, any, any]);
+    let edge = random.pick(&COLUMNS);
+    let mut columns = random.pick(&[edge, edge, edge, small, small, any]);
     let strings = some_strings(random, columns);
     let words = length(random, columns, 5);
     if random.once_in(8) {
         columns = outside(random, MOST_COLUMNS);
     }
+    slice_on(trial, random, columns, &strings, words);
+}
+
+/// Slices into room for so many words. Returns the number that engine and reference return, and the words as they are left.
+pub fn slice_on(
+    trial: &mut Trial,
+    random: &mut Random,
+    columns: usize,
+    strings: &[u8],
+    words: usize,
+) -> (u32, Vec<u64>) {
     let mut memory = Memory::new(random);
     memory.note("columns", columns as u64);
-    let strings = memory.lend("strings", &strings);
+    let strings = memory.lend("strings", strings);
     let words = memory.room("words", words);
-    trial.compare(
+    let returned = trial.compare(
         &memory,
         // SAFETY, here and below: what is lent lies apart in the block, which lives as long as the call.
         |view| unsafe { lent::slice(columns, view.slice(strings), view.slice_mut(words)) },
@@ -54,6 +66,8 @@ pub fn slice(trial: &mut Trial, random: &mut Random, _: &Stock) {
             )
         },
     );
+    // SAFETY: the block that is left lives, and nothing else uses it.
+    (returned, unsafe { trial.left().slice(words) }.to_vec())
 }
 
 /// Output words: mostly 1 to 8, of any content, or with lanes that all hit or all miss.

@@ -2,6 +2,7 @@
 //!
 //! Takes a seed, if another than the fixed one is wanted. Exits 1 on the first difference.
 
+mod columns;
 #[path = "../../../include/corkhollow.rs"]
 mod corkhollow;
 mod cumulative;
@@ -9,6 +10,7 @@ mod faults;
 mod foreign;
 mod inputs;
 mod lanes;
+mod long;
 mod matrices;
 mod memory;
 mod numbers;
@@ -107,6 +109,8 @@ fn main() {
     weights::compare();
     values::compare();
     wanted::compare();
+    columns::compare();
+    long::compare();
     let stock = Stock::new(&mut Random::new(seed));
     let numbers: Vec<String> = (1..ANSWERS).map(|refusal| refusal.to_string()).collect();
     print_row("operation", "stack", "cases", "done", &numbers);

@@ -110,13 +110,25 @@ pub fn write(trial: &mut Trial, random: &mut Random, stock: &Stock) {
         entries,
     } = some_matrix(random, stock);
     let needed = file_length(rows.min(MOST_ROWS), columns.min(MOST_COLUMNS));
+    let file = length(random, needed, 5);
+    write_on(trial, random, (rows, columns), &entries, file);
+}
+
+/// Writes entries into room for a file of so many bytes. Returns the file too.
+pub fn write_on(
+    trial: &mut Trial,
+    random: &mut Random,
+    (rows, columns): (usize, usize),
+    entries: &[u8],
+    file: usize,
+) -> (u32, Vec<u8>) {
     let mut memory = Memory::new(random);
     memory.note("rows", rows as u64);
     memory.note("columns", columns as u64);
-    let entries = memory.lend("entries", &entries);
-    let file = memory.room("file", length(random, needed, 5));
+    let entries = memory.lend("entries", entries);
+    let file = memory.room("file", file);
     let written = memory.number("length");
-    trial.compare(
+    let returned = trial.compare(
         &memory,
         |view| unsafe {
             let (file, written) = (view.slice_mut(file), view.number(written));
@@ -134,6 +146,7 @@ pub fn write(trial: &mut Trial, random: &mut Random, stock: &Stock) {
             )
         },
     );
+    (returned, trial.laid(returned, file, written))
 }
 
 pub fn walk(trial: &mut Trial, random: &mut Random, stock: &Stock) {
@@ -148,6 +161,17 @@ pub fn walk(trial: &mut Trial, random: &mut Random, stock: &Stock) {
 
 /// Walks on a string. Returns the row too, as it is left.
 pub fn walk_on(trial: &mut Trial, random: &mut Random, file: &[u8], string: &[u8]) -> (u32, usize) {
+    let (returned, row, _) = walked_on(trial, random, file, string);
+    (returned, row)
+}
+
+/// Walks on a string. Returns the row and the columns used too, as they are left.
+pub fn walked_on(
+    trial: &mut Trial,
+    random: &mut Random,
+    file: &[u8],
+    string: &[u8],
+) -> (u32, usize, usize) {
     let mut memory = Memory::new(random);
     let file = memory.lend("file", file);
     let string = memory.lend("string", string);
@@ -170,8 +194,9 @@ pub fn walk_on(trial: &mut Trial, random: &mut Random, file: &[u8], string: &[u8
             )
         },
     );
+    let view = trial.left();
     // SAFETY: the block that is left lives, and nothing else uses it.
-    (returned, unsafe { *trial.left().number(row) })
+    unsafe { (returned, *view.number(row), *view.number(used)) }
 }
 
 pub fn spent(trial: &mut Trial, random: &mut Random, stock: &Stock) {
@@ -182,12 +207,18 @@ pub fn spent(trial: &mut Trial, random: &mut Random, stock: &Stock) {
     spent_on(trial, random, &file, &strings);
 }
 
-pub fn spent_on(trial: &mut Trial, random: &mut Random, file: &[u8], strings: &[u8]) -> u32 {
+/// Adds up what the walks on 64 strings use. Returns the total too, as it is left.
+pub fn spent_on(
+    trial: &mut Trial,
+    random: &mut Random,
+    file: &[u8],
+    strings: &[u8],
+) -> (u32, usize) {
     let mut memory = Memory::new(random);
     let file = memory.lend("file", file);
     let strings = memory.lend("strings", strings);
     let total = memory.number("total");
-    trial.compare(
+    let returned = trial.compare(
         &memory,
         |view| unsafe { lent::spent(view.slice(file), view.slice(strings), view.number(total)) },
         |table, view| unsafe {
@@ -199,7 +230,9 @@ pub fn spent_on(trial: &mut Trial, random: &mut Random, file: &[u8], strings: &[
                 view.pointer(total),
             )
         },
-    )
+    );
+    // SAFETY: the block that is left lives, and nothing else uses it.
+    (returned, unsafe { *trial.left().number(total) })
 }
 
 pub fn compile(trial: &mut Trial, random: &mut Random, stock: &Stock) {

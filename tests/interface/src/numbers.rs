@@ -72,8 +72,18 @@ fn others() -> [(usize, usize); HEADER_NUMBERS - REFUSALS.len()] {
     ]
 }
 
+/// 02, order 8: the limits that it moves.
+const MOVED: [(usize, usize); 3] = [
+    (192, corkhollow::COLUMNS),
+    (192, corkhollow::INPUTS),
+    (262_144, corkhollow::INSTRUCTIONS),
+];
+
 /// Ends the tests where a number differs.
 pub fn compare() {
+    for (wanted, by_binding) in MOVED {
+        same("a limit of 02, order 8", wanted, by_binding);
+    }
     // SAFETY: calls.c defines both, and the length is compared before the numbers are read.
     let length = unsafe { through_numbers_length };
     same("the header's numbers", HEADER_NUMBERS, length);
@@ -116,7 +126,7 @@ fn lengths() {
 fn same(what: &str, wanted: usize, found: usize) {
     if wanted != found {
         fail(&format!(
-            "difference: {what} is {found}, the reference's {wanted}"
+            "difference: {what} is {found}, and must be {wanted}"
         ));
     }
 }

@@ -64,14 +64,14 @@ struct Run {
 /// The words that a run is lent.
 #[derive(Default, PartialEq)]
 pub struct Words {
-    inputs: Vec<u64>,
-    registers: Vec<u64>,
-    outputs: Vec<u64>,
+    pub inputs: Vec<u64>,
+    pub registers: Vec<u64>,
+    pub outputs: Vec<u64>,
 }
 
 impl Words {
     /// Words of any content, as many as the file's header asks for, or more, or too few.
-    fn some(random: &mut Random, file: &[u8], short_once_in: usize) -> Self {
+    pub fn some(random: &mut Random, file: &[u8], short_once_in: usize) -> Self {
         let mut words = |at: usize, most: usize| {
             let needed = field_or_0(file, at).min(most + 1);
             let number = length(random, needed, short_once_in);
@@ -198,7 +198,8 @@ fn count_of(file: &[u8]) -> u32 {
 fn some_budget(random: &mut Random, count: u32) -> u32 {
     let part = random.below(count as usize + 1) as u32;
     let (less, more) = (count.saturating_sub(1), count.saturating_add(1));
-    random.pick(&[0, 1, less, count, more, 65_536, u32::MAX, part, part, part])
+    let edge = random.pick(&[65_536, 131_072, 131_073]);
+    random.pick(&[0, 1, less, count, more, edge, u32::MAX, part, part, part])
 }
 
 /// A position, mostly one within a program's count.
@@ -248,11 +249,11 @@ pub fn resume_on(
 }
 
 /// What a run left: its words, and its numbers.
-struct Left {
-    words: Words,
-    position: u32,
-    count: u32,
-    finished: bool,
+pub struct Left {
+    pub words: Words,
+    pub position: u32,
+    pub count: u32,
+    pub finished: bool,
 }
 
 /// Takes what the last call left, so that the next one can be lent it.
@@ -271,6 +272,36 @@ fn take(trial: &mut Trial, run: Run) -> Left {
             finished: *view.number(run.finished),
         }
     }
+}
+
+/// Starts a sound program with the first budget and resumes it with the others, each time with what the call before left put back into
+/// other buffers. Tells what each call left.
+pub fn stopped_on(
+    trial: &mut Trial,
+    random: &mut Random,
+    file: &[u8],
+    inputs: &[u64],
+    budgets: &[u32],
+) -> Vec<Left> {
+    let mut words = Words::some(random, file, usize::MAX);
+    words.inputs = inputs.to_vec();
+    let (mut position, mut all) = (0, Vec::new());
+    for (call, &budget) in budgets.iter().enumerate() {
+        let mut memory = Memory::new(random);
+        let run = Run::lend(&mut memory, file, &words);
+        match call {
+            0 => run.start(trial, &mut memory, budget),
+            _ => run.resume(trial, &mut memory, position, budget),
+        };
+        let left = take(trial, run);
+        position = left.position;
+        words = take(trial, run).words.put_back(random, file);
+        all.push(Left {
+            words: left.words.front(file),
+            ..left
+        });
+    }
+    all
 }
 
 /// A start that is resumed, with what each call left put back into other buffers, until it has finished: it ends as the unbroken run does.

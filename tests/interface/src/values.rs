@@ -17,7 +17,7 @@ pub fn compare() {
     let mut trial = Trial::new("compile, draw ..", 0);
     for (fewest, most, bits) in VALUE_BIT_CASES {
         for rows in fewest..=most {
-            for columns in [1, 7, 8, 63, 128] {
+            for columns in [1, 7, 8, 63, 128, 129, 192] {
                 let matrix = random::matrix_by_columns(random, rows, columns, true);
                 compiled(&mut trial, random, &matrix, bits);
             }

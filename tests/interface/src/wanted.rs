@@ -1,7 +1,7 @@
 //! The operation that finds a string for a row: string_for. And 02, order 7: its cases, with strings that are worked out by hand, and every
 //! row of some tables drawn from its string.
 
-use crate::inputs::{length, Stock, SIXTEEN_BITS};
+use crate::inputs::{length, Stock, COLUMNS, SIXTEEN_BITS};
 use crate::lanes::draw_on;
 use crate::matrices::{compile_on, some_file, walk_on};
 use crate::memory::Memory;
@@ -12,7 +12,7 @@ use reference::lent::{self, DONE};
 use reference::matrix::Matrix;
 use reference::random::{self, Random};
 use reference::record::packed_length;
-use reference::tables::{document_001, document_002, document_004};
+use reference::tables::{document_001, document_002, document_002_fine, document_004};
 use std::ops::Range;
 
 /// The number of a row: mostly one of these rows, or the next, or another that is none, also one of which 8, 16, 32 or 63 bits are.
@@ -165,7 +165,7 @@ fn strings_are_found(random: &mut Random) {
             found(&mut trial, random, &matrix, row, string);
         }
     }
-    for columns in [1, 2, 7, 8, 9, 31, 32, 33, 63, 64, 65, 127, 128] {
+    for columns in COLUMNS.into_iter().chain([31, 32, 33, 136, 160]) {
         let one = format!("{}1", "0".repeat(columns - 1));
         let (ones, zeros) = ("1".repeat(columns), "0".repeat(columns));
         let matrix = Matrix::from_texts(&[&one, &ones, &zeros]);
@@ -181,13 +181,14 @@ fn strings_are_found(random: &mut Random) {
 /// 128 rows that are set in the last column alone: the string that spells s hits row 127 - s.
 fn late_rows_are_found(random: &mut Random) {
     let mut trial = Trial::new("string_for", 0);
-    for columns in [7, 8, 9, 64, 65, 128] {
+    for columns in [7, 8, 9, 64, 65, 128, 129, 192] {
         let one = format!("{}1", "0".repeat(columns - 1));
         let matrix = Matrix::from_texts(&[one.as_str(); 128]);
         let spare = 8 * packed_length(columns) - columns;
         for row in 0..128 {
             let number = (127 - row as u128) << spare;
-            let string = &number.to_be_bytes()[16 - packed_length(columns)..];
+            let bytes = [&[0; 8][..], &number.to_be_bytes()].concat();
+            let string = &bytes[24 - packed_length(columns)..];
             found(&mut trial, random, &matrix, row, Some(string));
         }
     }
@@ -232,21 +233,23 @@ fn numbers_are_refused(random: &mut Random) {
     refused(&["10", "10", "01"], 0, 6);
 }
 
-/// Every row of some tables: of those of few rows in each of the 64 lanes, and of the table of source document 002 in a lane each. Some of
-/// them add up to 2^n, some have rows that are zero, and of some n is no multiple of 8.
+/// Every row of some tables: of those of few rows in each of the 64 lanes, and of the curve of source document 002, with 128 columns and
+/// with 192, in a lane each. Some of them add up to 2^n, some have rows that are zero, and of some n is no multiple of 8.
 fn rows_are_drawn(random: &mut Random) {
     let mut trial = Trial::new("string_for, draw", 0);
     let mut tables = vec![document_001(), document_004()];
-    for (rows, columns) in [(5, 3), (9, 11), (8, 17), (12, 63)] {
+    for (rows, columns) in [(5, 3), (9, 11), (8, 17), (12, 63), (4, 129), (5, 191)] {
         tables.push(random::matrix_of_parts(random, rows, columns, true));
         tables.push(random::matrix_by_columns(random, rows, columns, true));
     }
     for table in tables {
         table_is_drawn(&mut trial, random, &table, |_| 0..LANES);
     }
-    table_is_drawn(&mut trial, random, &document_002(), |row| {
-        row % LANES..row % LANES + 1
-    });
+    for table in [document_002(), document_002_fine()] {
+        table_is_drawn(&mut trial, random, &table, |row| {
+            row % LANES..row % LANES + 1
+        });
+    }
 }
 
 /// Compiles a table, and draws each row that has a string in these lanes.

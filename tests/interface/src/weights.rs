@@ -1,7 +1,7 @@
 //! The operation on weights: build. And 02, order 5: its cases with the numbers that stand there, and what is drawn of lists that are built
 //! for signed use.
 
-use crate::inputs::{length, outside, Stock, SIXTEEN_BITS};
+use crate::inputs::{length, outside, Stock, COLUMNS, SIXTEEN_BITS};
 use crate::lanes::draw_signed_on;
 use crate::matrices::compile_on;
 use crate::memory::Memory;
@@ -16,15 +16,22 @@ use std::collections::BTreeMap;
 /// Both uses: plain, and signed.
 const USES: [bool; 2] = [false, true];
 
-/// A number from 1 to 128: mostly a small one.
-fn some_size(random: &mut Random) -> usize {
-    let (small, any) = (random.between(1, 9), random.between(1, 128));
+/// A number of weights: mostly a small one.
+fn some_number(random: &mut Random) -> usize {
+    let (small, any) = (random.between(1, 9), random.between(1, MOST_ROWS));
     random.pick(&[small, small, small, small, any, 1, 127, 128])
+}
+
+/// A number of columns: a small one, any, or one at which something changes.
+fn some_columns(random: &mut Random) -> usize {
+    let (small, any) = (random.between(1, 9), random.between(1, MOST_COLUMNS));
+    let edge = random.pick(&COLUMNS);
+    random.pick(&[small, small, any, any, edge])
 }
 
 /// Weights: sound, all 0, none or too many.
 fn some_weights(random: &mut Random) -> Vec<u32> {
-    let number = some_size(random);
+    let number = some_number(random);
     let more = random.pick(&[200, 256 + number, SIXTEEN_BITS + number]);
     let refused = random.pick(&[0, 0, 0, MOST_ROWS + 1, MOST_ROWS + 1, MOST_ROWS + 1, more]);
     match random.below(12) {
@@ -38,7 +45,7 @@ fn some_weights(random: &mut Random) -> Vec<u32> {
 /// Each list is built for both uses.
 pub fn build(trial: &mut Trial, random: &mut Random, _: &Stock) {
     let weights = some_weights(random);
-    let mut columns = some_size(random);
+    let mut columns = some_columns(random);
     let needed = file_length(weights.len().min(MOST_ROWS), columns);
     if random.once_in(8) {
         columns = outside(random, MOST_COLUMNS);
@@ -50,7 +57,7 @@ pub fn build(trial: &mut Trial, random: &mut Random, _: &Stock) {
 }
 
 /// Builds into room for a file of so many bytes. Returns the file too.
-fn build_on(
+pub fn build_on(
     trial: &mut Trial,
     random: &mut Random,
     weights: &[u32],
@@ -121,18 +128,20 @@ const BUILT: [Built; 12] = [
 ];
 
 /// Lists with their columns, and the number that they are refused with for both uses, however much room there is.
-const REFUSED: [(&[u32], usize, u32); 11] = [
+const REFUSED: [(&[u32], usize, u32); 13] = [
     (&[], 2, 3),
     (&[0; 129], 2, 3),
     (&[MOST; 129], 2, 3),
     (&[1, 1, 1], 0, 3),
-    (&[1, 1, 1], 129, 3),
+    (&[1, 1, 1], 193, 3),
     (&[1, 1, 1], (1 << 32) + 2, 3),
     (&[0, 0], 0, 3),
-    (&[0, 0], 129, 3),
+    (&[0, 0], 193, 3),
     (&[0], 3, 11),
     (&[0, 0], 3, 11),
     (&[0; 128], 128, 11),
+    (&[0, 0], 129, 11),
+    (&[0; 128], 192, 11),
 ];
 
 /// Ends the tests where a function answers otherwise than 02 says.
@@ -145,7 +154,7 @@ pub fn compare() {
 }
 
 /// A matrix file of rows of so many bytes together.
-fn file_of(rows: usize, columns: usize, bytes: &[u8]) -> Vec<u8> {
+pub fn file_of(rows: usize, columns: usize, bytes: &[u8]) -> Vec<u8> {
     let fields = [8 + bytes.len(), 32, rows, columns];
     let header = fields.map(|field| [field as u8, (field >> 8) as u8]);
     [header.as_flattened(), bytes].concat()
@@ -175,16 +184,20 @@ fn lists_are_built(random: &mut Random) {
     }
 }
 
-/// 128 of the largest weights: for plain use 2^128 / 128 each. For signed use S is 255 times the weight, and 255 × 0101..01 is 2^128 - 1:
-/// row 0 is 0101..01, the others are 0202..02. Without that of 0, and with 7 columns, every other row is 128 × 2 / 254, cut to 1.
+/// 128 of the largest weights: for plain use 2^n / 128 each. For signed use S is 255 times the weight, and 255 × 0101..01 is 2^n - 1, with
+/// 128 columns and with 192: row 0 is 0101..01, the others are 0202..02. Without that of 0, and with 7 columns, every other row is
+/// 128 × 2 / 254, cut to 1.
 fn the_largest_are_built(random: &mut Random) {
     let mut trial = Trial::new("build", 0);
-    let part = [&[0x02][..], &[0x00; 15]].concat();
-    let plain = file_of(128, 128, &part.repeat(128));
-    built(&mut trial, random, (&[MOST; 128], 128, false), plain);
-    let rows = [&[0x01; 16][..], &[0x02; 127 * 16]].concat();
-    let signed = file_of(128, 128, &rows);
-    built(&mut trial, random, (&[MOST; 128], 128, true), signed);
+    for width in [16, 24] {
+        let columns = 8 * width;
+        let part = [&[0x02][..], &vec![0x00; width - 1]].concat();
+        let plain = file_of(128, columns, &part.repeat(128));
+        built(&mut trial, random, (&[MOST; 128], columns, false), plain);
+        let rows = [vec![0x01; width], vec![0x02; 127 * width]].concat();
+        let signed = file_of(128, columns, &rows);
+        built(&mut trial, random, (&[MOST; 128], columns, true), signed);
+    }
     let mut others = [MOST; 128];
     others[0] = 0;
     let rows = [&[0x00][..], &[0x02; 127]].concat();

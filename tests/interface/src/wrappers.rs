@@ -53,7 +53,7 @@ pub fn compare() {
     both("resume", |sound| {
         resume(&program, if sound { 9 } else { 99 })
     });
-    both("slice", |sound| slice(if sound { 2 } else { 129 }));
+    both("slice", |sound| slice(if sound { 2 } else { 193 }));
     both("samples", |sound| samples(if sound { 3 } else { 9 }));
     both("signed_samples", |sound| {
         signed_samples(if sound { 3 } else { 9 })

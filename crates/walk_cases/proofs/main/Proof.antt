@@ -8,7 +8,7 @@ use Rattle.walk_cases.proofs.main.Statement.{statement}
 use Rattle.walk_cases.proofs.main.Tie as tie
 
 abbrev Inv-loop : tie.InvT-loop
-Inv-loop line₀ file₀ size₀ passed₀ line file size passed = (passed ≤ 4096) × (length line ≡ 8192) × (length file ≡ 2056) × Counts size file
+Inv-loop line₀ file₀ size₀ passed₀ line file size passed = (passed ≤ 4096) × (length line ≡ 12288) × (length file ≡ 3080) × Counts size file
 
 abbrev μ-loop : tie.MeasureT-loop
 μ-loop line₀ file₀ size₀ passed₀ line file size passed = 4096 - passed

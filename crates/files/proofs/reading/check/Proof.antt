@@ -1,7 +1,7 @@
 -- `files::check` meets its contract: the header's checks, then those of the rows. Assumes nothing.
 use borrow.Author.Needs.{needs}
 use mathlib.Core.Path.{sym}
-use Rattle.files.specs.Files.{matrixOf}
+use Rattle.files.specs.Files.{matrixUnder}
 use Rattle.files.specs.Checks.{header-says}
 use Rattle.files.proofs.reading.check.Statement.{statement}
 use Rattle.files.proofs.reading.check.Tie as tie
@@ -10,11 +10,11 @@ body-requires : tie.Need-body-requires
 body-requires c κs = header-says _ _ (sym (rw (c .before .rows .given .1) at (c .before .before .before .read-header .ensures))) .sized
 
 returns : tie.Need-returns
-unfolding matrixOf
+unfolding matrixUnder
 returns c = rw (← (rw (c .before .why .given .1) at (c .before .before .before .read-header .ensures)))
 
 returns-2 : tie.Need-returns-2
-unfolding matrixOf
+unfolding matrixUnder
 returns-2 c =
     let told = c .before .before in
     rw (← (rw (told .rows .given .1) at (told .before .before .read-header .ensures))) (c .body .ensures)

@@ -3,7 +3,7 @@ use borrow.Author.Needs.{needs}
 use mathlib.Core.Path.{_≡_, sym, _∙_}
 use Prim.Native.Nat.{_+_, _*_}
 use borrow.Author.Tests.{eq-eqb, ne-eqb, not-true, not-false}
-use Rattle.programs.specs.Header.{headerOf, limitsOf, numbersOf}
+use Rattle.programs.specs.Header.{headerOf, limitsUnder, limitsOf, numbersOf}
 use Rattle.programs.specs.Reading.{header-few, header-foreign, header-short, header-numbers}
 use Rattle.programs.proofs.headers.read_header.Statement.{statement}
 use Rattle.programs.proofs.headers.read_header.Tie as tie
@@ -42,11 +42,11 @@ numbered c =
     (rw (r .field2 .ensures .0, i .field3 .ensures .0, o .field4 .ensures .0, low .field5 .ensures .0, high .field6 .ensures .0))
 
 returns-4 : tie.Need-returns-4
-unfolding limitsOf
+unfolding limitsUnder
 returns-4 c = sym (numbered (c .before) ∙ rw (sym (c .before .within .ensures) ∙ not-true _ (c .if4 .taken)))
 
 returns-5 : tie.Need-returns-5
-unfolding limitsOf
+unfolding limitsUnder
 returns-5 c =
     let inside = c .before .before in
     sym (numbered (inside .before) ∙ rw (
@@ -56,7 +56,7 @@ returns-5 c =
     ))
 
 returns-6 : tie.Need-returns-6
-unfolding limitsOf
+unfolding limitsUnder
 returns-6 c =
     let inside = c .before .before in
     sym (numbered (inside .before) ∙ rw (

@@ -8,7 +8,7 @@ use Rattle.walk_cases.proofs.rows.print_total.Statement.{statement}
 use Rattle.walk_cases.proofs.rows.print_total.Tie as tie
 
 abbrev Inv-loop : tie.InvT-loop
-Inv-loop file rows width sum₀ carry₀ used j₀ sum carry j = (j ≤ used) × (used ≤ 16) × (carry ≤ 65536) × (length sum ≡ 16)
+Inv-loop file rows width sum₀ carry₀ used j₀ sum carry j = (j ≤ used) × (used ≤ 24) × (carry ≤ 65536) × (length sum ≡ 24)
 
 abbrev μ-loop : tie.MeasureT-loop
 μ-loop file rows width sum₀ carry₀ used j₀ sum carry j = j
