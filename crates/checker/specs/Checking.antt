@@ -9,9 +9,9 @@ use lib.ListN.{length, drop, replicate, length-drop, length-replicate}
 use Rattle.laws.specs.Sums.{any}
 use Rattle.laws.specs.Lists.{all-replicate}
 use Rattle.laws.specs.Outcome.{Outcome, refused, gives, _>>=_, mapped, bound, gives-inj}
-use Rattle.programs.specs.Limits.{most-registers, most-outputs, within, unwritten, unset}
+use Rattle.programs.specs.Limits.{most-registers, most-inputs, most-outputs, most-instructions, within, unwritten, unset}
 use Rattle.programs.specs.Instructions.{uses, lengthOf}
-use Rattle.programs.specs.Header.{header-length, headerOf}
+use Rattle.programs.specs.Header.{header-length, headerUnder, headerOf}
 use Rattle.programs.specs.Reading.{within-means}
 use Rattle.programs.specs.declared.description.Program.{Program}
 use Rattle.programs.specs.declared.description.Instruction.{Instruction}
@@ -115,12 +115,18 @@ module _ (file : List ℕ) where
         (λ is. refl) (codeOf (p .count) p nothing nothing (drop header-length file))) ∙ rw (← e))
 
 -- what a check that has passed says: header, then instructions
-pub check-says : (file : List ℕ) (c : Code) → checkOf file ≡ gives c →
-    (headerOf file ≡ gives (c .program)) ×
+pub check-says-under : (wide long : ℕ) (file : List ℕ) (c : Code) → checkUnder wide long file ≡ gives c →
+    (headerUnder wide long file ≡ gives (c .program)) ×
     (codeOf (c .program .count) (c .program) nothing nothing (drop header-length file) ≡ gives (c .instructions))
 unfolding checkUnder
-check-says file c e =
-    let c1 = bound (headerOf file) _ c e in
+check-says-under wide long file c e =
+    let c1 = bound (headerUnder wide long file) _ c e in
     let c2 = bound (codeOf (c1 .0 .count) (c1 .0) nothing nothing (drop header-length file)) _ c (c1 .2) in
     let same = gives-inj (c2 .2) in
     rw (← same) (c1 .1, c2 .1)
+
+-- at the limits
+pub check-says : (file : List ℕ) (c : Code) → checkOf file ≡ gives c →
+    (headerOf file ≡ gives (c .program)) ×
+    (codeOf (c .program .count) (c .program) nothing nothing (drop header-length file) ≡ gives (c .instructions))
+check-says = check-says-under most-inputs most-instructions

@@ -45,7 +45,7 @@ abbrev pub SetBy : List Instruction → ℕ → Type 0
 SetBy is o = (k : ℕ) × (i : Instruction) × At is k i × OneOf (uses i .sets) o
 
 pub record WellFormed (p : Program) (is : List Instruction) : Type 0 where
-  -- registers 1 to 1,024, inputs 1 to 192, outputs 1 to 8, at most 262,144 instructions
+  -- its numbers are within the limits of a program
   pub limits : Within p
   pub counted : p .count ≡ length is
   -- each operand is below its count

@@ -125,7 +125,8 @@ program M =
 unfoldable pub compiled : Matrix → List ℕ
 compiled M = programFile (program M) (translation M)
 
--- compiling a matrix file into a buffer of `room` bytes: the matrix's checks, then 13 for the whole program, which is laid down
+-- compiling a matrix file into a buffer of `room` bytes, where at most `most` columns are allowed: the matrix's checks, then 13 for the
+-- whole program, which is laid down
 unfoldable pub compileUnder : ℕ → List ℕ → ℕ → Outcome (List ℕ)
 compileUnder most file room = do
   M ← matrixUnder most file

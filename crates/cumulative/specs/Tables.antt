@@ -91,7 +91,7 @@ sums M = upto (M .rows + 1) (λ v. sumTo v (p M))
 abbrev pub exported : Matrix → Table
 exported M = record { numbers = sums M; columns = M .columns }
 
--- exporting into a buffer of `room` numbers: the table that is laid down
+-- exporting into a buffer of `room` numbers, where a matrix has at most `most` columns: the table that is laid down
 unfoldable pub exportUnder : ℕ → List ℕ → ℕ → Outcome Table
 exportUnder most file room = do
   M ← matrixUnder most file

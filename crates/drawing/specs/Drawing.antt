@@ -17,8 +17,8 @@ use Rattle.lanes.specs.Samples.{samplesOf, signedSamplesOf}
 use Rattle.drawing.specs.declared.Batch.{Batch}
 use Rattle.drawing.specs.declared.Batch.the-variants as Batch
 
--- drawing into a buffer of `room` places, with a way of reading the outputs: the program's own refusals, 13 and 5 for the strings, 13 for
--- the samples
+-- drawing into a buffer of `room` places, with a way of reading the outputs, where at most `most` columns, `wide` inputs and `long`
+-- instructions are allowed: the program's own refusals, 13 and 5 for the strings, 13 for the samples
 unfoldable pub drawnUnder : {A : Type 0} → ℕ → ℕ → ℕ → List ℕ → List ℕ → ℕ → (List ℕ → Outcome A) → Outcome A
 drawnUnder most wide long program strings room read = do
   c ← checkUnder wide long program

@@ -1,5 +1,5 @@
 -- 01, "Checked by hand", and 02, order 5: the cases that are proved, in one table, proved as a whole. Assumes nothing.
-use Prim.Native.Nat.{ℕ}
+use Prim.Native.Nat.{ℕ, _*_}
 use mathlib.Core.Path.{_≡_, refl, ap}
 use mathlib.Core.Bool.{Bool, true, false, _&&_, cond}
 use mathlib.Core.List.{List, [], _∷_}
@@ -12,7 +12,8 @@ use Rattle.laws.specs.Digits.{number, digit}
 use Rattle.laws.specs.Lists.{blocks, upto}
 use Rattle.laws.specs.Outcome.{Outcome, refused, gives, mapped, _>>=_}
 use Rattle.fields.specs.Fields.{fieldOf, packedBit, padded, packed, spare}
-use Rattle.files.specs.Matrix.{bit, p, total, ones-in}
+use Rattle.fields.specs.Limits.{most-columns}
+use Rattle.files.specs.Matrix.{most-rows, bit, p, total, ones-in}
 use Rattle.files.specs.Files.{fileLength, headerBytes, matrixFile, sizesUnder, headerUnder, unpacked, bodyOf}
 use Rattle.files.specs.Files.{matrixUnder, matrixOf, readUnder, readOf, writeUnder, writeOf}
 use Rattle.fields.specs.Strings.{stringsUnder}
@@ -132,7 +133,7 @@ numbersOf r = cond (r .finished) 1 0 ∷ r .position ∷ r .count ∷ []
 -- what the operation comes to
 pub comes : Operation → Outcome (List ℕ)
 comes (writes m n entries) = writeOf m n entries (fileLength m n)
-comes (reads file) = mapped (λ M. M .entries) (readOf file 16384)
+comes (reads file) = mapped (λ M. M .entries) (readOf file (most-rows * most-columns))
 comes (builds usage weights n) =
     buildOf usage weights n (fileLength (length weights) n) >>= λ file. mapped (λ M. M .entries) (matrixOf file)
 comes (walks file string) = mapped toldOf (walkOf file string)

@@ -2,7 +2,7 @@
 use Prim.Native.Nat.{ℕ, _≤_, _<_}
 use mathlib.Core.Path.{_≡_, sym, _∙_}
 use mathlib.Core.Bool.{Bool, true, false, _||_}
-use mathlib.Core.Logic.{⊎-elim}
+use mathlib.Core.Logic.{_↔_, ⊎-elim}
 use native.Mathlib.Omega.{arith}
 use borrow.Author.Tests.{lt-ltb, le-ltb, ltb-false}
 use lib.Dec.{ltb}
@@ -40,18 +40,29 @@ module _ (most x : ℕ) where
 abbrev pub Between : ℕ → ℕ → ℕ → Type 0
 Between most more x = (most < x) × (x ≤ more)
 
--- raising a limit changes an outcome only where it was that limit's refusal, and only for a size between the two
-pub limit-raised : {A : Type 0} {i : ℕ} (most more x : ℕ) → most ≤ more → (rest : Outcome A) →
-    Raised (Between most more x) i (refuse i (outside most x) >> rest) (refuse i (outside more x) >> rest)
-limit-raised most more x h rest = raised-check (outside most x) (outside more x) rest still between
-  where
-    still : outside more x ≡ true → outside most x ≡ true
-    still e = ⊎-elim (outside-below most x) some (lt-or-ge x 1)
-      where
-        some : 1 ≤ x → outside most x ≡ true
-        some a = ⊎-elim (outside-above most x a) (λ (l : x ≤ most). never (sym (inside more x a (omega arith)) ∙ e)) (lt-or-ge most x)
+module _ (most more x : ℕ) (h : most ≤ more) where
+  outside-still : outside more x ≡ true → outside most x ≡ true
+  outside-still e = ⊎-elim (outside-below most x) some (lt-or-ge x 1)
+    where
+      some : 1 ≤ x → outside most x ≡ true
+      some a = ⊎-elim (outside-above most x a) (λ (l : x ≤ most). never (sym (inside more x a (omega arith)) ∙ e)) (lt-or-ge most x)
 
-    between : outside most x ≡ true → outside more x ≡ false → Between most more x
-    between e q =
-        let s = within more x q in
-        ⊎-elim (λ (l : most < x). (l, s .1)) (λ (l : x ≤ most). never (sym (inside most x (s .0) l) ∙ e)) (lt-or-ge most x)
+  -- the sizes that were outside and no longer are
+  between-iff : ((outside most x ≡ true) × (outside more x ≡ false)) ↔ Between most more x
+  between-iff = (newly, (λ b. (outside-above most x (omega (arith, b .0)) (b .0), inside more x (omega (arith, b .0)) (b .1))))
+    where
+      newly : (outside most x ≡ true) × (outside more x ≡ false) → Between most more x
+      newly e =
+          let s = within more x (e .1) in
+          ⊎-elim (λ (l : most < x). (l, s .1)) (λ (l : x ≤ most). never (sym (inside most x (s .0) l) ∙ e .0)) (lt-or-ge most x)
+
+  -- a size that is not above the old limit is outside as it was
+  pub outside-same : x ≤ most → outside more x ≡ outside most x
+  outside-same l =
+      ⊎-elim (λ (a : x < 1). outside-below more x a ∙ sym (outside-below most x a))
+      (λ (a : 1 ≤ x). inside more x a (omega arith) ∙ sym (inside most x a l)) (lt-or-ge x 1)
+
+  -- raising a limit changes an outcome only where it was that limit's refusal, and that is where the size is between the two
+  pub limit-raised : {A : Type 0} {i : ℕ} (rest : Outcome A) →
+      Raised (Between most more x) i (refuse i (outside most x) >> rest) (refuse i (outside more x) >> rest)
+  limit-raised rest = raised-check (outside most x) (outside more x) rest outside-still between-iff

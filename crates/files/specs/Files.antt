@@ -41,7 +41,7 @@ sizesUnder most file = do
   refuse 4 (not (eqb (length file) (fieldOf file 0)))
   gives (record { rows = fieldOf file 4; columns = fieldOf file 6 })
 
--- a matrix file's header: where four bytes are there, the kind is tried before the length (02, order 3); then its sizes
+-- a matrix file's header, with this limit: where four bytes are there, the kind is tried before the length (02, order 3); then its sizes
 unfoldable pub headerUnder : ℕ → List ℕ → Outcome Sizes
 headerUnder most file = do
   refuse 1 (ltb (length file) 4)
@@ -68,7 +68,7 @@ bodyOf file s = do
   refuse 6 (ltb (2 ^ s .columns) (total (unpacked (drop 8 file) s)))
   gives (unpacked (drop 8 file) s)
 
--- a matrix file: its refusal, or its matrix
+-- a matrix file, with this limit: its refusal, or its matrix
 unfoldable pub matrixUnder : ℕ → List ℕ → Outcome Matrix
 matrixUnder most file = do
   s ← headerUnder most file
@@ -78,7 +78,7 @@ matrixUnder most file = do
 abbrev pub matrixOf : List ℕ → Outcome Matrix
 matrixOf = matrixUnder most-columns
 
--- reading a file into a buffer of `room` bytes: its matrix, whose entries are laid down
+-- reading a file into a buffer of `room` bytes, with this limit: its matrix, whose entries are laid down
 unfoldable pub readUnder : ℕ → List ℕ → ℕ → Outcome Matrix
 readUnder most file room = do
   M ← matrixUnder most file
@@ -89,7 +89,8 @@ readUnder most file room = do
 abbrev pub readOf : List ℕ → ℕ → Outcome Matrix
 readOf = readUnder most-columns
 
--- writing the header of a file of m rows and n columns into a buffer of `room` bytes, where all of that file has room
+-- writing the header of a file of m rows and n columns, of which at most `most` are allowed, into a buffer of `room` bytes, where all of
+-- that file has room
 unfoldable pub writeHeaderUnder : ℕ → ℕ → ℕ → ℕ → Outcome (List ℕ)
 writeHeaderUnder most m n room = do
   refuse 3 (outside most-rows m)
@@ -109,7 +110,7 @@ taken m n entries = record { rows = m; columns = n; entries = take (m * n) entri
 abbrev pub aboveOne : ℕ → List ℕ → Bool
 aboveOne k entries = any k (λ i. ltb 1 (getD entries i 0))
 
--- writing m rows and n columns, row after row in `entries`, into a buffer of `room` bytes: the file that is laid down
+-- writing m rows and n columns, row after row in `entries`, with this limit, into a buffer of `room` bytes: the file that is laid down
 unfoldable pub writeUnder : ℕ → ℕ → ℕ → List ℕ → ℕ → Outcome (List ℕ)
 writeUnder most m n entries room = do
   refuse 3 (outside most-rows m)

@@ -1,4 +1,4 @@
--- 02, order 3: the checks of a matrix file as 01 has them, which answers are others now that the kind is tried before shortness, and what a
+-- 02, order 3: the checks of a matrix file in 01's order, which answers are others now that the kind is tried before shortness, and what a
 -- file that is cut comes to. Assumes nothing.
 use Prim.Native.Nat.{ℕ, _≤_, _<_}
 use mathlib.Core.Path.{_≡_, _∙_}

@@ -13,8 +13,13 @@ use Rattle.fields.specs.Limits.{most-columns, outside}
 abbrev pub most-rows : ℕ
 most-rows = 128
 
+-- whether a size is outside its limit, with at most `most` columns
+abbrev pub outsideUnder : ℕ → ℕ → ℕ → Bool
+outsideUnder most m n = outside most-rows m || outside most n
+
+-- at the limit of columns
 abbrev pub sizesOutside : ℕ → ℕ → Bool
-sizesOutside m n = outside most-rows m || outside most-columns n
+sizesOutside = outsideUnder most-columns
 
 pub record Sizes : Type 0 where
   pub rows : ℕ

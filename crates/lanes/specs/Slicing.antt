@@ -31,7 +31,7 @@ stringBits n strings j = upto n (bitOf strings (j * width n))
 unfoldable pub wordOf : List ℕ → ℕ → ℕ → ℕ
 wordOf strings w i = pack lanes (λ j. bitOf strings (j * w) i)
 
--- slicing 64 strings of n bits into a buffer of `room` words: the n words that are laid down
+-- slicing 64 strings of n bits, of which at most `most` are allowed, into a buffer of `room` words: the n words that are laid down
 unfoldable pub sliceUnder : ℕ → ℕ → List ℕ → ℕ → Outcome (List ℕ)
 sliceUnder most n strings room = do
   stringsUnder most lanes n strings

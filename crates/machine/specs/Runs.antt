@@ -54,7 +54,8 @@ module _ {A : Type 0} (G : Gates A) where
     refuse 13 (ltb (length outputs) (p .outputs))
     gives tt
 
-  -- a start: the program's registers and outputs are 0, and it begins at instruction 0
+  -- a start, where a program has at most `wide` inputs and `long` instructions: its registers and outputs are 0, and it begins at
+  -- instruction 0
   unfoldable pub startUnder : ℕ → ℕ → List ℕ → List A → List A → List A → ℕ → Outcome (Ended A)
   startUnder wide long file inputs registers outputs budget = do
     c ← checkUnder wide long file
@@ -62,7 +63,7 @@ module _ {A : Type 0} (G : Gates A) where
     gives (runOf (c .instructions) inputs 0 budget
         (record { registers = replicate (c .program .registers) (G .zeros); outputs = replicate (c .program .outputs) (G .zeros) }))
 
-  -- a resume: it begins at the position given, and clears nothing
+  -- a resume, with these limits: it begins at the position given, and clears nothing
   unfoldable pub resumeUnder : ℕ → ℕ → List ℕ → List A → List A → List A → ℕ → ℕ → Outcome (Ended A)
   resumeUnder wide long file inputs registers outputs position budget = do
     c ← checkUnder wide long file

@@ -1,4 +1,4 @@
--- 02, order 3: the checks of a program's header as 01 has them, which answers are others now that the kind is tried before shortness, and
+-- 02, order 3: the checks of a program's header in 01's order, which answers are others now that the kind is tried before shortness, and
 -- what an instruction that is cut comes to. Assumes nothing.
 use Prim.Native.Nat.{ℕ, _≤_, _<_}
 use mathlib.Core.Path.{_≡_, _∙_}

@@ -45,7 +45,8 @@ limitsUnder wide long file p = do
   refuse 4 (not (eqb (fieldOf file 0) header-length))
   gives p
 
--- the header at the front of a file: where four bytes are there, the kind is tried before the length (02, order 3); then its numbers
+-- the header at the front of a file, with these limits: where four bytes are there, the kind is tried before the length (02, order 3);
+-- then its numbers
 unfoldable pub headerUnder : ℕ → ℕ → List ℕ → Outcome Program
 headerUnder wide long file = do
   refuse 1 (ltb (length file) 4)
@@ -60,7 +61,7 @@ limitsOf = limitsUnder most-inputs most-instructions
 abbrev pub headerOf : List ℕ → Outcome Program
 headerOf = headerUnder most-inputs most-instructions
 
--- writing a header at the front of a buffer of `room` bytes: the bytes that are laid down
+-- writing a header at the front of a buffer of `room` bytes, with these limits: the bytes that are laid down
 unfoldable pub writeHeaderUnder : ℕ → ℕ → Program → ℕ → Outcome (List ℕ)
 writeHeaderUnder wide long p room = do
   refuse 3 (not (withinUnder wide long p))

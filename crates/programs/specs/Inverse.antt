@@ -13,7 +13,7 @@ use lib.Seq.{getD-drop, drop-cons, take-at}
 use Rattle.laws.specs.Lay.{lay, layAt, drop-laid, laid-back}
 use Rattle.laws.specs.Outcome.{Outcome, gives, laid, passed, bound, gives-inj, no-result}
 use Rattle.fields.specs.Fields.{fieldOf, field-small}
-use Rattle.programs.specs.Limits.{within}
+use Rattle.programs.specs.Limits.{most-instructions, most-inputs, within, withinUnder}
 use Rattle.programs.specs.Records.{recordBytes}
 use Rattle.programs.specs.Reading.{length-fields, length-instruction, encode-gives}
 use Rattle.programs.specs.Reading.{header-long, header-numbers, write-header-gives}
@@ -110,29 +110,34 @@ named bytes i r =
 
 -- ---- a header
 -- what is read says of the bytes
-pub record HeaderReads (file : List ℕ) (p : Program) : Type 0 where
+pub record HeaderReadsUnder (wide many : ℕ) (file : List ℕ) (p : Program) : Type 0 where
   pub room : header-length ≤ length file
   pub long : fieldOf file 0 ≡ header-length
   pub kind : fieldOf file 2 ≡ header-kind
-  pub inside : within p ≡ true
+  pub inside : withinUnder wide many p ≡ true
   pub numbers : numbersOf file ≡ p
 
-pub header-reads : (file : List ℕ) (p : Program) → headerOf file ≡ gives p → HeaderReads file p
+pub header-reads-under : (wide long : ℕ) (file : List ℕ) (p : Program) → headerUnder wide long file ≡ gives p →
+    HeaderReadsUnder wide long file p
 unfolding headerUnder limitsUnder
-header-reads file p e =
+header-reads-under wide long file p e =
     let c1 = passed 1 (ltb (length file) 4) _ p e in
     let c2 = passed 2 (not (eqb (fieldOf file 2) header-kind)) _ p (c1 .1) in
     let c3 = passed 1 (ltb (length file) header-length) _ p (c2 .1) in
-    let c4 = passed 3 (not (within (numbersOf file))) _ p (c3 .1) in
+    let c4 = passed 3 (not (withinUnder wide long (numbersOf file))) _ p (c3 .1) in
     let c5 = passed 4 (not (eqb (fieldOf file 0) header-length)) _ p (c4 .1) in
     let q : numbersOf file ≡ p = gives-inj (c5 .1) in
     record {
       room = ltb-false (length file) header-length (c3 .0);
       long = eqb-true (fieldOf file 0) header-length (not-false _ (c5 .0));
       kind = eqb-true (fieldOf file 2) header-kind (not-false _ (c2 .0));
-      inside = ap within (sym q) ∙ not-false _ (c4 .0);
+      inside = ap (withinUnder wide long) (sym q) ∙ not-false _ (c4 .0);
       numbers = q;
     }
+
+-- at the limits
+pub header-reads : (file : List ℕ) (p : Program) → headerOf file ≡ gives p → HeaderReadsUnder most-inputs most-instructions file p
+header-reads = header-reads-under most-inputs most-instructions
 
 -- ---- what is written is read back
 field-back : (x : ℕ) → x % 256 + 256 * (x / 256) ≡ x

@@ -13,7 +13,7 @@ use Rattle.laws.specs.Lay.{layAt, layAt-nothing}
 use Rattle.laws.specs.Outcome.{Outcome, refused, gives, mapped, laid, _>>=_}
 use Rattle.fields.specs.Fields.{fieldOf, fieldBytes}
 use Rattle.fields.specs.Limits.{outside}
-use Rattle.programs.specs.Limits.{most-registers, most-inputs, most-outputs, most-instructions, among, within}
+use Rattle.programs.specs.Limits.{most-registers, most-inputs, most-outputs, most-instructions, among, withinUnder, within}
 use Rattle.programs.specs.Records.{recordBytes, length-record, field-after}
 use Rattle.programs.specs.Instructions.{ofKind, sizedOf, kindOf, lengthOf, operandsOf, instructionBytes, encodeOf, decodeOf, decodeAt}
 use Rattle.programs.specs.Header.{header-length, header-kind, headerBytes, numbersOf}
@@ -23,7 +23,7 @@ use Rattle.programs.specs.declared.description.Instruction.{Instruction}
 use Rattle.programs.specs.declared.description.Instruction.the-variants.{Ones, Zero, Input, Not, And, Or, Output}
 
 -- ---- the limits
-pub among-means : (most x : ℕ) → among most x ≡ true → (1 ≤ x) × (x ≤ most)
+among-means : (most x : ℕ) → among most x ≡ true → (1 ≤ x) × (x ≤ most)
 among-means most x e =
     let s = neither (ltb x 1) (ltb most x) (not-true (outside most x) e) in
     (ltb-false x 1 (s .0), ltb-false most x (s .1))
@@ -31,41 +31,53 @@ among-means most x e =
 pub among-limits : (most x : ℕ) → 1 ≤ x → x ≤ most → among most x ≡ true
 among-limits most x a b = rw (le-ltb x 1 a, le-ltb most x b)
 
-pub record Within (p : Program) : Type 0 where
+-- what numbers within their limits are
+pub record WithinUnder (wide long : ℕ) (p : Program) : Type 0 where
   pub some-registers : 1 ≤ p .registers
   pub few-registers : p .registers ≤ most-registers
   pub some-inputs : 1 ≤ p .inputs
-  pub few-inputs : p .inputs ≤ most-inputs
+  pub few-inputs : p .inputs ≤ wide
   pub some-outputs : 1 ≤ p .outputs
   pub few-outputs : p .outputs ≤ most-outputs
-  pub few-instructions : p .count ≤ most-instructions
+  pub few-instructions : p .count ≤ long
+
+module _ (wide long : ℕ) (p : Program) where
+  pub under-means : withinUnder wide long p ≡ true → WithinUnder wide long p
+  under-means e =
+      let abc = both _ _ e in
+      let ab = both _ _ (abc .0) in
+      let a = both _ _ (ab .0) in
+      let r = among-means most-registers (p .registers) (a .0) in
+      let i = among-means wide (p .inputs) (a .1) in
+      let o = among-means most-outputs (p .outputs) (ab .1) in
+      record {
+        some-registers = r .0;
+        few-registers = r .1;
+        some-inputs = i .0;
+        few-inputs = i .1;
+        some-outputs = o .0;
+        few-outputs = o .1;
+        few-instructions = leb-true (p .count) long (abc .1);
+      }
+
+  pub under-holds : WithinUnder wide long p → withinUnder wide long p ≡ true
+  under-holds w =
+      rw (
+        among-limits most-registers (p .registers) (w .some-registers) (w .few-registers),
+        among-limits wide (p .inputs) (w .some-inputs) (w .few-inputs),
+        among-limits most-outputs (p .outputs) (w .some-outputs) (w .few-outputs),
+        le-leb (p .count) long (w .few-instructions),
+      )
+
+-- at the limits
+abbrev pub Within : Program → Type 0
+Within = WithinUnder most-inputs most-instructions
 
 pub within-means : (p : Program) → within p ≡ true → Within p
-within-means p e =
-    let abc = both _ _ e in
-    let ab = both _ _ (abc .0) in
-    let a = both _ _ (ab .0) in
-    let r = among-means most-registers (p .registers) (a .0) in
-    let i = among-means most-inputs (p .inputs) (a .1) in
-    let o = among-means most-outputs (p .outputs) (ab .1) in
-    record {
-      some-registers = r .0;
-      few-registers = r .1;
-      some-inputs = i .0;
-      few-inputs = i .1;
-      some-outputs = o .0;
-      few-outputs = o .1;
-      few-instructions = leb-true (p .count) most-instructions (abc .1);
-    }
+within-means = under-means most-inputs most-instructions
 
 pub limits-hold : (p : Program) → Within p → within p ≡ true
-limits-hold p w =
-    rw (
-      among-limits most-registers (p .registers) (w .some-registers) (w .few-registers),
-      among-limits most-inputs (p .inputs) (w .some-inputs) (w .few-inputs),
-      among-limits most-outputs (p .outputs) (w .some-outputs) (w .few-outputs),
-      le-leb (p .count) most-instructions (w .few-instructions),
-    )
+limits-hold = under-holds most-inputs most-instructions
 
 -- ---- an instruction
 pub decode-beyond : (file : List ℕ) (at : ℕ) → length file < at → refused 1 ≡ decodeAt file at

@@ -30,7 +30,7 @@ fn among(most: usize, x: usize) -> bool
 }
 
 impl Program {
-    // The most registers, inputs, outputs and instructions; of inputs and instructions since 02, order 8.
+    // The most registers, inputs, outputs and instructions. Those of inputs and instructions were raised by 02, order 8.
     pub const REGISTERS: usize = 1024;
 
     pub const INPUTS: usize = 192;

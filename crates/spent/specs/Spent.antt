@@ -17,7 +17,8 @@ use Rattle.spent.specs.declared.Total.the-variants as Total
 abbrev pub usedOn : Matrix → List ℕ → ℕ → ℕ
 usedOn M strings j = used (M .columns) (drawn M (stringBits (M .columns) strings j))
 
--- the matrix's checks, then those of 64 strings as slicing takes them, then what the walks on them have used, added up
+-- where at most `most` columns are allowed: the matrix's checks, then those of 64 strings as slicing takes them, then what the walks on
+-- them have used, added up
 unfoldable pub spentUnder : ℕ → List ℕ → List ℕ → Outcome ℕ
 spentUnder most file strings = do
   M ← matrixUnder most file

@@ -70,7 +70,8 @@ pub record Spending : Type 0 where
 abbrev pub spendingOf : ℕ → Drawn → Spending
 spendingOf n d = record { answer = answerOf d; used = used n d }
 
--- walking a matrix file on a packed string: the matrix's checks, then the string's, then the walk on its first n bits
+-- walking a matrix file on a packed string, where at most `most` columns are allowed: the matrix's checks, then the string's, then the walk
+-- on its first n bits
 unfoldable pub walkUnder : ℕ → List ℕ → List ℕ → Outcome Spending
 walkUnder most file string = do
   M ← matrixUnder most file

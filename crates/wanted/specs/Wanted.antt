@@ -28,8 +28,8 @@ abbrev pub packedNumber : ℕ → Option ℕ → Option (List ℕ)
 packedNumber n none = none
 packedNumber n (some x) = some (packedString n (numberString n x))
 
--- a string for a row, into a buffer of `room` bytes: the matrix's checks, then the row's number, then the room, also where the row is all
--- zero; then the string, or none
+-- a string for a row, into a buffer of `room` bytes, where at most `most` columns are allowed: the matrix's checks, then the row's number,
+-- then the room, also where the row is all zero; then the string, or none
 unfoldable pub wantedUnder : ℕ → List ℕ → ℕ → ℕ → Outcome (Option (List ℕ))
 wantedUnder most file row room = do
   M ← matrixUnder most file

@@ -20,7 +20,7 @@ use Rattle.weights.specs.Division.{share-double}
 use Rattle.weights.specs.declared.building.Usage.{Usage}
 use Rattle.weights.specs.declared.building.Usage.the-variants.{Plain, Signed}
 
--- building as 01 has it, for either use: m weights, each as it is
+-- building in 01's way, for either use: m weights, each as it is
 unfoldable pub buildEach : ℕ → (ℕ → ℕ) → ℕ → ℕ → Outcome (List ℕ)
 buildEach m weight n room = do
   refuse 3 (outside most-rows m)

@@ -1,4 +1,4 @@
--- `vectors_matrices::product` meets its contract: each factor is at most 128. Assumes nothing.
+-- `vectors_matrices::product` meets its contract: each factor is at most its limit. Assumes nothing.
 use borrow.Author.Needs.{needs}
 use native.Mathlib.Nat.{mul-le-mul}
 use native.Mathlib.Omega.{arith}
