@@ -25,6 +25,21 @@ pub fn longest_program_of(columns: usize) -> Matrix {
     matrix
 }
 
+/// The row of such a matrix that a lane of the input words hits, worked out without it: from the
+/// eighth column on, a distance below 128 hits, row 127 first, and any other loses 128.
+pub fn row_of_longest(inputs: &[u64], lane: usize) -> Option<u64> {
+    let mut distance = 0;
+    for (column, word) in inputs.iter().enumerate() {
+        distance = 2 * distance + (word >> lane & 1);
+        match distance {
+            _ if column < OPENING => {}
+            0..128 => return Some(127 - distance),
+            _ => distance -= 128,
+        }
+    }
+    None
+}
+
 /// A matrix of 128 rows whose program file has exactly this length, where there is one among those
 /// that begin with seven empty columns.
 ///

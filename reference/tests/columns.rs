@@ -1,10 +1,12 @@
 //! 02, order 8: columns and inputs up to 192, instructions up to 262,144, and what comes next to each
 //! limit; by hand.
 
+mod refused;
+
 use reference::compiler::compile;
 use reference::cumulative::{export, import, lookup};
 use reference::draws::{draw, draw_signed};
-use reference::extremes::longest_program;
+use reference::extremes::{longest_program, row_of_longest};
 use reference::lanes::slice;
 use reference::machine::{resume, start, Run};
 use reference::matrix::{check, read, write, Matrix};
@@ -14,6 +16,7 @@ use reference::record::put;
 use reference::walk::{spent, walk, Walked};
 use reference::wanted::string_for;
 use reference::weights::build;
+use refused::matrix_is_refused;
 
 /// Columns that are refused: the next to the most, ones of which 8, 16, 32 or 63 bits are within.
 const WIDER: [usize; 8] = [
@@ -104,21 +107,9 @@ fn more_than_192_columns_are_refused() {
     }
     for columns in [193, 194, 200, 256, 448] {
         for rows in [1, 128, 129] {
-            file_is_refused(&zeros(rows, columns), 3);
+            matrix_is_refused(&zeros(rows, columns), 3);
         }
     }
-}
-
-/// Every operation that takes a matrix file refuses this one so, with nothing else in order.
-#[track_caller]
-fn file_is_refused(file: &[u8], number: u32) {
-    assert_eq!(check(file), Err(number));
-    assert_eq!(read(file, 0), Err(number));
-    assert_eq!(walk(file, &[]), Err(number));
-    assert_eq!(spent(file, &[]), Err(number));
-    assert_eq!(compile(file, 0), Err(number));
-    assert_eq!(export(file, 0), Err(number));
-    assert_eq!(string_for(file, usize::MAX, 0), Err(number));
 }
 
 /// Fields of 16 bits, and bytes of 0 after them.
@@ -149,7 +140,7 @@ fn checks_around_192_columns_come_in_their_order() {
         ([24, 32, 1, 129], 17, 4),
         ([26, 32, 1, 136], 18, 4),
     ] {
-        file_is_refused(&record(&fields, bytes), number);
+        matrix_is_refused(&record(&fields, bytes), number);
     }
     for (columns, bytes) in [(129, 17), (136, 17), (191, 24), (192, 24)] {
         let file = record(&[8 + bytes, 32, 1, columns], bytes);
@@ -164,13 +155,13 @@ fn spare_bits_of_wide_rows_are_tried() {
     for columns in 129..=192usize {
         let ones = "1".repeat(columns);
         let above = file_of(&[ones.clone(), ones]);
-        file_is_refused(&above, 6);
+        matrix_is_refused(&above, 6);
         for bit in 0..columns.next_multiple_of(8) - columns {
             let mut file = above.clone();
             *file.last_mut().unwrap() |= 1 << bit;
-            file_is_refused(&file, 5);
+            matrix_is_refused(&file, 5);
             file.push(0);
-            file_is_refused(&file, 4);
+            matrix_is_refused(&file, 4);
         }
     }
 }
@@ -437,22 +428,6 @@ fn long_programs_stop_and_resume() {
         let beyond = resume(&program, &[0x5555], &[0; 1_024], &[0; 8], count + 1, 0);
         assert_eq!(beyond, Err(12));
     }
-}
-
-/// The row that a lane hits in the matrix of 128 rows that are set in every column from the eighth
-/// on: from there on, a distance below 128 hits, row 127 first, and any other loses 128.
-fn row_of_longest(inputs: &[u64], lane: usize) -> Option<u64> {
-    let mut distance = 0;
-    for (column, word) in inputs.iter().enumerate() {
-        distance = 2 * distance + (word >> lane & 1);
-        if column >= 7 && distance < 128 {
-            return Some(127 - distance);
-        }
-        if column >= 7 {
-            distance -= 128;
-        }
-    }
-    None
 }
 
 /// The words on which it runs: any, but for lane 9, which carries ones alone and misses.

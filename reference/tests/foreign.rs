@@ -2,17 +2,16 @@
 //! is tried before shortness. The files that the order speaks of, with the numbers that stand
 //! there; each of a header's checks with the next; and that no other 1 or 2 of a header changes.
 
-use reference::compiler::{compile, translate};
-use reference::cumulative::export;
+mod refused;
+
+use reference::compiler::translate;
 use reference::draws::{draw, draw_signed};
-use reference::listing::lister;
 use reference::machine::{resume, start};
-use reference::matrix::{check, read, Matrix};
+use reference::matrix::{check, Matrix};
 use reference::program;
 use reference::record::put;
 use reference::tables::document_004;
-use reference::walk::{spent, walk};
-use reference::wanted::string_for;
+use refused::matrix_is_refused;
 
 /// Matrices whose files have 9, 10, 11 and 14 bytes, and more.
 fn matrices() -> Vec<Matrix> {
@@ -33,19 +32,6 @@ fn program_files() -> Vec<Vec<u8>> {
     let matrices = matrices();
     let programs = matrices.iter().map(|matrix| translate(matrix).encode());
     programs.collect()
-}
-
-/// Every operation that takes a matrix file refuses this one so, with nothing else in order.
-#[track_caller]
-fn matrix_is_refused(file: &[u8], number: u32) {
-    assert_eq!(check(file), Err(number));
-    assert_eq!(read(file, 0), Err(number));
-    assert_eq!(walk(file, &[]), Err(number));
-    assert_eq!(spent(file, &[]), Err(number));
-    assert_eq!(compile(file, 0), Err(number));
-    assert_eq!(export(file, 0), Err(number));
-    assert_eq!(string_for(file, usize::MAX, 0), Err(number));
-    assert_eq!(lister(file), format!("refused {number}\n"));
 }
 
 /// Every operation that takes a program file refuses this one so, with nothing else in order.

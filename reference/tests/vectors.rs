@@ -1,6 +1,7 @@
 //! The vectors: the same each time, small enough to store, and answered from their own text.
 
 use reference::compiler::VALUE_BIT_CASES;
+use reference::extremes::row_of_longest;
 use reference::vectors::answer::answer;
 use reference::vectors::line::Hash;
 use reference::vectors::{each_given, LONGEST_LINE};
@@ -415,21 +416,6 @@ fn only<'a>(lines: &'a [String], begin: &str) -> &'a str {
     line
 }
 
-/// The row of the longest program's matrix that a lane of the input words hits: all 128 rows are set
-/// in every column from the eighth on, so that a distance below 128 hits there, row 127 first.
-fn row_of_longest(inputs: &[u64], lane: usize) -> u64 {
-    let mut distance = 0;
-    for (column, word) in inputs.iter().enumerate() {
-        distance = 2 * distance + (word >> lane & 1);
-        match distance {
-            _ if column < 7 => {}
-            0..128 => return 127 - distance,
-            _ => distance -= 128,
-        }
-    }
-    panic!("lane {lane} misses");
-}
-
 /// The compiled program of 128 rows and 192 columns is stopped and resumed to its end. An empty
 /// column that begins with h distances has 2 instructions, 2 h ANDs and, as 2 h are live after it,
 /// as many ORs; h is 1, 2, .., 64. Each of the 185 full columns has 962, and 17 are outside columns.
@@ -443,7 +429,8 @@ fn the_longest_program_is_stopped_and_resumed() {
     let fields: Vec<&str> = line.split(' ').collect();
     let word = |at: usize| u64::from_str_radix(&fields[2][at..at + 16], 16).unwrap();
     let inputs: Vec<u64> = (0..192).map(|i| word(16 * i)).collect();
-    let rows: Vec<u64> = (0..64).map(|lane| row_of_longest(&inputs, lane)).collect();
+    let row = |lane| row_of_longest(&inputs, lane).unwrap();
+    let rows: Vec<u64> = (0..64).map(row).collect();
     let bits = |t: usize| (0..64).map(|lane| (rows[lane] >> t & 1) << lane).sum();
     let outputs: Vec<u64> = std::iter::once(u64::MAX).chain((0..7).map(bits)).collect();
     let outputs: String = outputs.iter().map(|word| format!("{word:016x}")).collect();

@@ -8,7 +8,7 @@ use crate::matrices::compile_on;
 use crate::programs::{check_on, resume_on, start_on, stopped_on, Left, Words};
 use crate::trial::{fail, must, Trial};
 use reference::compiler::translate;
-use reference::extremes::longest_program;
+use reference::extremes::{longest_program, row_of_longest};
 use reference::lanes::{LANES, MISS};
 use reference::lent::DONE;
 use reference::program::{Header, Instruction, Operation, Program};
@@ -185,22 +185,6 @@ fn long_programs_stop(random: &mut Random, count: u32) {
     let words = Words::some(random, &program, usize::MAX);
     let beyond = resume_on(&mut trial, random, &program, &words, count + 1, 0);
     must("resume above the count", 12, beyond);
-}
-
-/// The row that a lane hits where all of 128 rows are set in every column from the eighth on: from there on, a distance below 128 hits, row
-/// 127 first, and any other loses 128.
-fn row_of_longest(inputs: &[u64], lane: usize) -> Option<u64> {
-    let mut distance = 0;
-    for (column, word) in inputs.iter().enumerate() {
-        distance = 2 * distance + (word >> lane & 1);
-        if column >= 7 && distance < 128 {
-            return Some(127 - distance);
-        }
-        if column >= 7 {
-            distance -= 128;
-        }
-    }
-    None
 }
 
 /// The compiled program of 128 rows and 192 columns, of 178,509 instructions: at once, and stopped on both sides of 131,072 and of its end.
