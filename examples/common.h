@@ -12,7 +12,7 @@
 static inline void must(const char *call, uint32_t refusal) {
     static const char *const names[] = {"OK",      "SHORT",     "KIND",  "SIZE",       "LENGTH",   "BIT",    "SUM",        "INSTRUCTION",
                                         "OPERAND", "UNWRITTEN", "UNSET", "WEIGHTLESS", "POSITION", "BUFFER", "MULTIPLIER", "TABLE",
-                                        "STEP"};
+                                        "STEP",    "SIGNER",    "CAP",   "RESERVE"};
     if (refusal == CORKHOLLOW_OK) return;
     const char *name = refusal < sizeof names / sizeof *names ? names[refusal] : "unknown";
     fprintf(stderr, "%s: refusal %u, %s\n", call, refusal, name);

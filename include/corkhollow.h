@@ -16,7 +16,7 @@
  * - On a refusal nothing lent has changed, the numbers included. On success a buffer has its result at the front; beyond that
  *   nothing has changed.
  * - A buffer longer than needed is never refused, and its rest is neither read nor written. A file is exactly its length: bytes left over
- *   are a refusal.
+ *   are a refusal. The records of a pool are as many as their length says.
  * - A file of 4 bytes or more is tried for its kind before its length: 2 says that it is another file, whole or cut short, and 1 that it
  *   is of the kind expected and shorter than its records say. Under 4 bytes there is no kind to try, and it is 1.
  * - A string of n bits is packed into CORKHOLLOW_WIDTH(n) bytes, bit 0 highest in the first byte. Where n is no multiple of 8, the spare
@@ -55,7 +55,8 @@ enum corkhollow_refusal {
                                    14, an instruction cut short */
     CORKHOLLOW_KIND = 2,        /* the first record is not of the kind expected: another file, also one cut short, from 4 bytes on */
     CORKHOLLOW_SIZE = 3,        /* rows, columns, weights, registers, inputs, outputs, instructions, output words, numbers of a cumulative
-                                   table, or a number that is looked up, outside the limits; a row asked for that the matrix has not */
+                                   table, a number that is looked up, signers, or words of a pool, outside the limits; a row asked for that
+                                   the matrix has not; reserves that no pool can be opened with, or records that it can not have */
     CORKHOLLOW_LENGTH = 4,      /* a length field that is not what the header requires, or bytes left over */
     CORKHOLLOW_BIT = 5,         /* a spare bit set, an entry neither 0 nor 1, or an entry of a list that is no signed sample */
     CORKHOLLOW_SUM = 6,         /* the rows of the matrix add up to more than 2^columns */
@@ -68,10 +69,14 @@ enum corkhollow_refusal {
     CORKHOLLOW_BUFFER = 13,     /* a lent buffer is too short for its own input or its own result */
     CORKHOLLOW_MULTIPLIER = 14, /* a multiplier outside 1 to 1,000 */
     CORKHOLLOW_TABLE = 15,      /* a table that is not cumulative: its first number is not 0, one falls, or the last is above 2^columns */
-    CORKHOLLOW_STEP = 16        /* a cumulative table with a difference of 2^columns, which no row can hold */
+    CORKHOLLOW_STEP = 16,       /* a cumulative table with a difference of 2^columns, which no row can hold */
+    CORKHOLLOW_SIGNER = 17,     /* a signer number that the pool was not opened with */
+    CORKHOLLOW_CAP = 18,        /* a draw above its signer's cap */
+    CORKHOLLOW_RESERVE = 19     /* a draw after which fewer words would be left than the other signers lack of their reserves, or of more
+                                   words than are left */
 };
 
-/* Limits. Rows, columns, weights, registers, inputs, outputs and multipliers begin at 1, instructions at 0. */
+/* Limits. Rows, columns, weights, registers, inputs, outputs, multipliers and signers begin at 1, instructions and words of a pool at 0. */
 #define CORKHOLLOW_LANES 64
 #define CORKHOLLOW_ROWS 128
 #define CORKHOLLOW_COLUMNS 192
@@ -81,6 +86,8 @@ enum corkhollow_refusal {
 #define CORKHOLLOW_INSTRUCTIONS 262144
 #define CORKHOLLOW_MOST_MULTIPLIER 1000
 #define CORKHOLLOW_TABLE_COLUMNS 63 /* of a cumulative table, and of a matrix that has one */
+#define CORKHOLLOW_SIGNERS 16
+#define CORKHOLLOW_POOL_WORDS 65536
 
 /* What stands for a miss: as a sample or a row, drawn or looked up, as a signed sample, and as a result of combining. */
 #define CORKHOLLOW_MISS 255
@@ -329,6 +336,68 @@ uint32_t corkhollow_lookup(const uint64_t *table, size_t table_length,
                            size_t columns,
                            uint64_t r,
                            size_t *sample);
+
+/* ---- pools ---- */
+
+/*
+ * One buffer of random words, from which 1 to 16 signers draw; they are numbered from 0 in the order of their records. Each is sure of its
+ * reserve, whatever the others draw, and has at most its cap. Words go out in order from word 0 on, none twice between refills.
+ *
+ * The engine keeps no pool. The buffer, its number of words and the records are the caller's: lend every call the number and the records as
+ * the call before left them, and change nothing in them. No word is read, copied or cleared: a draw tells where in the buffer its words
+ * start. A word is what the caller counts in, of 64 bits, say. Words that went out are the caller's to wipe once they are used.
+ *
+ * Threads that share a pool must take turns in these calls, since each changes the records.
+ */
+struct corkhollow_signer {
+    uint32_t reserve; /* the words that it is sure of, at most its cap */
+    uint32_t cap;     /* the most words that it may draw between refills; it may be above the words that there are */
+    uint32_t drawn;   /* the words that it has drawn since the opening or the last refill: set by the functions below alone */
+};
+
+/* The layout of a record that the archive has: 12 bytes, aligned as its numbers, without a gap. */
+#define CORKHOLLOW_SIGNER_FITS(alignment) \
+    (sizeof(struct corkhollow_signer) == 12 && (alignment) == 4 && offsetof(struct corkhollow_signer, reserve) == 0 && \
+     offsetof(struct corkhollow_signer, cap) == 4 && offsetof(struct corkhollow_signer, drawn) == 8)
+#if defined(__cplusplus) && __cplusplus >= 201103L
+static_assert(CORKHOLLOW_SIGNER_FITS(alignof(struct corkhollow_signer)), "the layout of struct corkhollow_signer");
+#elif defined(__STDC_VERSION__) && __STDC_VERSION__ >= 201112L
+_Static_assert(CORKHOLLOW_SIGNER_FITS(_Alignof(struct corkhollow_signer)), "the layout of struct corkhollow_signer");
+#endif
+
+/*
+ * Opens a pool of `words` words and `signers_length` signers, of which each record says reserve and cap: sets every `drawn` to 0, whatever
+ * it was. Fill the buffer with random words before the first draw.
+ * Refusals: 3 for `words` above 65,536, for `signers_length` outside 1 to 16, for a reserve above its cap, or for reserves that together
+ * are above `words`.
+ */
+uint32_t corkhollow_pool_open(size_t words,
+                              struct corkhollow_signer *signers, size_t signers_length);
+
+/*
+ * Draws the next q words for one signer: tells in `start` the number of the first, so that they are the words from `start` on, and adds q
+ * to the signer's `drawn`. Nothing else changes. With q = 0 it tells where the next words start. A draw that keeps the signer within its
+ * reserve is always granted, whatever the others have drawn.
+ *
+ * Refusals, in the order tried: 3 for records that no opening and draws on so many words can leave; 17 for `signer` not below
+ * `signers_length`; 18 where the signer would have drawn more than its cap; 19 where fewer words would be left than the other signers
+ * together lack of their reserves, or where q exceeds those left. The 3 is for what corkhollow_pool_open refuses, for a `drawn` above its
+ * cap, and for fewer words than the larger of `drawn` and `reserve` of all signers together. No more is checked: records that were changed,
+ * or older ones that are put back, pass where an opening and draws could have left them, and words may then go out twice.
+ */
+uint32_t corkhollow_pool_draw(size_t words,
+                              struct corkhollow_signer *signers, size_t signers_length,
+                              size_t signer, size_t q,
+                              size_t *start);
+
+/*
+ * Refills a pool: sets every `drawn` to 0, so that the next draw starts at word 0 again. Before this, when no signer uses its words any
+ * more, put fresh random words into the buffer in the place of all that went out: the call sees no word, and without that the next draws
+ * hand the old ones out again.
+ * Refusals: 3 for the records, as for corkhollow_pool_draw.
+ */
+uint32_t corkhollow_pool_refill(size_t words,
+                                struct corkhollow_signer *signers, size_t signers_length);
 
 #ifdef __cplusplus
 }

@@ -19,6 +19,10 @@ pub const INSTRUCTIONS: usize = 262_144;
 pub const MOST_MULTIPLIER: u32 = 1_000;
 /// The most columns of a cumulative table, and of a matrix that has one.
 pub const TABLE_COLUMNS: usize = 63;
+/// The most signers of a pool.
+pub const SIGNERS: usize = 16;
+/// The most words of a pool.
+pub const POOL_WORDS: usize = 65_536;
 
 /// A miss, as a sample.
 pub const MISS: u8 = 255;
@@ -46,6 +50,8 @@ pub const fn matrix_length(rows: usize, columns: usize) -> usize {
 
 /// The functions as they are linked; the header says what they promise.
 pub mod raw {
+    use super::Signer;
+
     unsafe extern "C" {
         pub fn corkhollow_read(
             file: *const u8,
@@ -214,6 +220,24 @@ pub mod raw {
             r: u64,
             sample: *mut usize,
         ) -> u32;
+        pub fn corkhollow_pool_open(
+            words: usize,
+            signers: *mut Signer,
+            signers_length: usize,
+        ) -> u32;
+        pub fn corkhollow_pool_draw(
+            words: usize,
+            signers: *mut Signer,
+            signers_length: usize,
+            signer: usize,
+            q: usize,
+            start: *mut usize,
+        ) -> u32;
+        pub fn corkhollow_pool_refill(
+            words: usize,
+            signers: *mut Signer,
+            signers_length: usize,
+        ) -> u32;
     }
 }
 
@@ -226,7 +250,7 @@ impl fmt::Display for Refusal {
         let why = match self.0 {
             1 => "shorter than its records say",
             2 => "not the kind of file expected",
-            3 => "a size, or a number that is looked up, outside the limits, or a row that the matrix has not",
+            3 => "a size, or a number that is looked up, outside the limits, a row that the matrix has not, or records that no pool has",
             4 => "a length field that does not fit, or bytes left over",
             5 => "a spare bit set, an entry neither 0 nor 1, or one of a list that is no signed sample",
             6 => "the rows add up to more than 2^columns",
@@ -240,6 +264,9 @@ impl fmt::Display for Refusal {
             14 => "a multiplier outside 1 to 1,000",
             15 => "a table that is not cumulative: its first number is not 0, one falls, or the last is above 2^columns",
             16 => "a cumulative table with a difference of 2^columns, which no row can hold",
+            17 => "a signer number that the pool was not opened with",
+            18 => "a draw above its signer's cap",
+            19 => "a draw that would leave fewer words than the other signers lack of their reserves, or of more than are left",
             _ => "no refusal of the engine",
         };
         write!(f, "refusal {}: {why}", self.0)
@@ -270,6 +297,16 @@ pub struct Run {
     pub position: u32,
     pub count: u32,
     pub finished: bool,
+}
+
+/// What a pool knows of one signer: the words that it is sure of, the most that it may draw between refills, and those that it has drawn
+/// since the opening or the last refill, which the functions of the pool alone set.
+#[derive(Clone, Copy, Debug, PartialEq, Eq)]
+#[repr(C)]
+pub struct Signer {
+    pub reserve: u32,
+    pub cap: u32,
+    pub drawn: u32,
 }
 
 /// A result, where the number returned is 0.
@@ -661,4 +698,43 @@ pub fn lookup(table: &[u64], columns: usize, r: u64) -> Result<Option<usize>, Re
         unsafe { raw::corkhollow_lookup(table.as_ptr(), table.len(), columns, r, &mut sample) };
     let sample = (sample != usize::from(MISS)).then_some(sample);
     settle(returned, sample)
+}
+
+/// Opens a pool of so many words: sets what each signer has drawn to 0. The buffer is the caller's, and so are the records: lend them to
+/// each call as the one before left them.
+pub fn pool_open(words: usize, signers: &mut [Signer]) -> Result<(), Refusal> {
+    // SAFETY: as in `read`.
+    let returned = unsafe { raw::corkhollow_pool_open(words, signers.as_mut_ptr(), signers.len()) };
+    settle(returned, ())
+}
+
+/// Draws the next q words of a pool for one signer: where in the caller's buffer they start.
+pub fn pool_draw(
+    words: usize,
+    signers: &mut [Signer],
+    signer: usize,
+    q: usize,
+) -> Result<usize, Refusal> {
+    let mut start = 0;
+    // SAFETY: as in `read`.
+    let returned = unsafe {
+        raw::corkhollow_pool_draw(
+            words,
+            signers.as_mut_ptr(),
+            signers.len(),
+            signer,
+            q,
+            &mut start,
+        )
+    };
+    settle(returned, start)
+}
+
+/// Refills a pool: sets what each signer has drawn to 0. Before this, put fresh random words into the buffer in the place of all that went
+/// out.
+pub fn pool_refill(words: usize, signers: &mut [Signer]) -> Result<(), Refusal> {
+    // SAFETY: as in `read`.
+    let returned =
+        unsafe { raw::corkhollow_pool_refill(words, signers.as_mut_ptr(), signers.len()) };
+    settle(returned, ())
 }

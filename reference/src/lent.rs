@@ -7,9 +7,10 @@
 
 use crate::lanes::MISS;
 use crate::machine::Run;
+use crate::pool::Signer;
 use crate::refusal::Answer;
 use crate::{
-    compiler, cumulative, draws, lanes, machine, matrix, program, walk as walks, wanted,
+    compiler, cumulative, draws, lanes, machine, matrix, pool, program, walk as walks, wanted,
     weights as shares, wide,
 };
 
@@ -236,4 +237,28 @@ pub fn lookup(table: &[u64], columns: usize, r: u64, sample: &mut usize) -> u32 
     settle(cumulative::lookup(table, columns, r), |found| {
         *sample = found.unwrap_or(usize::from(MISS));
     })
+}
+
+/// Opening a pool.
+pub fn pool_open(words: usize, signers: &mut [Signer]) -> u32 {
+    settle(pool::open(words, signers), |laid| lay(&laid, signers))
+}
+
+/// Drawing words from a pool.
+pub fn pool_draw(
+    words: usize,
+    signers: &mut [Signer],
+    signer: usize,
+    q: usize,
+    start: &mut usize,
+) -> u32 {
+    settle(pool::draw(words, signers, signer, q), |granted| {
+        lay(&granted.signers, signers);
+        *start = granted.start;
+    })
+}
+
+/// Refilling a pool.
+pub fn pool_refill(words: usize, signers: &mut [Signer]) -> u32 {
+    settle(pool::refill(words, signers), |laid| lay(&laid, signers))
 }

@@ -1,6 +1,6 @@
 //! A second implementation of the 64-lane Knuth-Yao noise engine.
 //!
-//! It is written from the scope document, which the comments call 01, and from orders 1 to 8 of the
+//! It is written from the scope document, which the comments call 01, and from orders 1 to 9 of the
 //! change requests, 02, and shares no code with the engine: what the engine must answer is found
 //! here by another way wherever there is one. The sum T and every distance are numbers of any size,
 //! rows come from one big division, and files are decoded into lists before anything else is done
@@ -22,6 +22,8 @@ pub mod listing;
 pub mod machine;
 pub mod matrix;
 pub mod natural;
+pub mod pool;
+pub mod pools;
 pub mod program;
 pub mod random;
 pub mod record;

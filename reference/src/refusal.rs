@@ -7,7 +7,8 @@ pub type Answer<T> = Result<T, u32>;
 pub const SHORT: u32 = 1;
 /// The first record's kind is not the one expected.
 pub const KIND: u32 = 2;
-/// A size, or a number that is looked up, outside its limits, or a row that the matrix has not.
+/// A size, or a number that is looked up, outside its limits, a row that the matrix has not, or
+/// records that no pool can have.
 pub const SIZE: u32 = 3;
 /// A length field that is not what the header requires, or bytes left over.
 pub const LENGTH: u32 = 4;
@@ -35,6 +36,13 @@ pub const MULTIPLIER: u32 = 14;
 pub const TABLE: u32 = 15;
 /// A difference of 2^n in a cumulative table, which no row can hold.
 pub const STEP: u32 = 16;
+/// A signer number that the pool has not.
+pub const SIGNER: u32 = 17;
+/// A draw above its signer's cap.
+pub const CAP: u32 = 18;
+/// A draw after which fewer words would be left than the other signers lack of their reserves, or of
+/// more words than are left.
+pub const RESERVE: u32 = 19;
 
 /// One check: refuses with `number` where `fault` holds.
 pub fn refuse(number: u32, fault: bool) -> Answer<()> {

@@ -9,6 +9,8 @@ use reference::lanes::{samples, signed_samples, slice};
 use reference::listing::{lister, MOST_LISTED};
 use reference::machine::{resume, start};
 use reference::matrix::{check, read, write, Matrix};
+use reference::pool;
+use reference::pools::Pool;
 use reference::program;
 use reference::random::{self, Random};
 use reference::record::put;
@@ -975,5 +977,205 @@ fn string_for_goes_to_the_last_column() {
         let file = file_of(&[&first, &last]);
         assert_eq!(string_for(&file, 1, 24), Ok(Some(string)));
         assert_eq!(string_for(&file, 0, 24).unwrap().unwrap()[0], 0x00);
+    }
+}
+
+/// The answers of an opening, of a draw of nothing and of a refill: 0, or the refusal.
+fn answers(words: usize, records: &[(u32, u32, u32)]) -> [u32; 3] {
+    let signers = Pool::of(words, records).signers;
+    let number = |answer: Answer<()>| answer.err().unwrap_or(0);
+    [
+        number(pool::open(words, &signers).map(|_| ())),
+        number(pool::draw(words, &signers, 0, 0).map(|_| ())),
+        number(pool::refill(words, &signers).map(|_| ())),
+    ]
+}
+
+/// The start of a draw, or the refusal.
+fn start_of(words: usize, records: &[(u32, u32, u32)], signer: usize, q: usize) -> Answer<usize> {
+    let signers = Pool::of(words, records).signers;
+    pool::draw(words, &signers, signer, q).map(|granted| granted.start)
+}
+
+#[test]
+fn pools_take_1_to_16_signers() {
+    for number in 0..=40 {
+        let refusal = if (1..=16).contains(&number) { 0 } else { 3 };
+        assert_eq!(answers(40, &vec![(1, 1, 0); number]), [refusal; 3]);
+        assert_eq!(answers(40, &vec![(0, 0, 0); number]), [refusal; 3]);
+    }
+    for number in [256, 256 + 1, 65_536 + 1] {
+        assert_eq!(answers(40, &vec![(0, 0, 0); number]), [3; 3]);
+    }
+}
+
+#[test]
+fn pools_take_up_to_65536_words() {
+    for words in [0, 1, 2, 65_535, 65_536] {
+        let all = words as u32;
+        assert_eq!(answers(words, &[(all, all, 0)]), [0; 3]);
+        assert_eq!(answers(words, &[(all, u32::MAX, all)]), [0; 3]);
+        assert_eq!(answers(words, &[(all + 1, u32::MAX, 0)]), [3; 3]);
+        assert_eq!(start_of(words, &[(0, all, 0)], 0, words), Ok(0));
+        assert_eq!(start_of(words, &[(0, all, all)], 0, 0), Ok(words));
+        assert_eq!(start_of(words, &[(0, u32::MAX, 0)], 0, words + 1), Err(19));
+    }
+    for words in [65_537, 131_072, 1 << 32, (1 << 32) + 9, 1 << 63, usize::MAX] {
+        assert_eq!(answers(words, &[(1, 2, 1)]), [3; 3]);
+        assert_eq!(answers(words, &[(0, 0, 0)]), [3; 3]);
+    }
+}
+
+/// At each place of 1, 3 and 16 signers. An opening does not look at what was drawn.
+#[test]
+fn pools_keep_reserves_and_draws_within_caps() {
+    for number in [1, 3, 16] {
+        for place in 0..number {
+            let with = |reserve: u32, cap: u32, drawn: u32| {
+                let mut records = vec![(1, 2, 1); number];
+                records[place] = (reserve, cap, drawn);
+                answers(60_000, &records)
+            };
+            for cap in [0, 1, 5, 40_000] {
+                assert_eq!(with(cap, cap, cap), [0; 3]);
+                assert_eq!(with(cap + 1, cap, cap), [3; 3]);
+                assert_eq!(with(cap, cap, cap + 1), [0, 3, 3]);
+            }
+            for large in [1 << 16, 1 << 31, u32::MAX] {
+                assert_eq!(with(large, large - 1, 0), [3; 3]);
+                assert_eq!(with(0, large - 1, large), [0, 3, 3]);
+            }
+        }
+    }
+}
+
+/// Reserves, draws, and of each signer the larger of the two, that are as many as the words, and one
+/// more, wherever that one is.
+#[test]
+fn pools_have_words_for_all_claims() {
+    let claims = [(3, 9, 1), (0, 9, 4), (2, 9, 2), (5, 9, 0)];
+    assert_eq!(answers(14, &claims), [0; 3]);
+    assert_eq!(answers(13, &claims), [0, 3, 3]);
+    assert_eq!(answers(10, &claims), [0, 3, 3]);
+    assert_eq!(answers(9, &claims), [3; 3]);
+    for place in 0..4 {
+        let mut more = claims;
+        more[place].0 = more[place].0.max(more[place].2) + 1;
+        assert_eq!(answers(14, &more)[1..], [3; 2]);
+        let mut more = claims;
+        more[place].2 = more[place].0.max(more[place].2) + 1;
+        assert_eq!(answers(14, &more), [0, 3, 3]);
+    }
+}
+
+/// Sums that 32 bits would take for 0, for 1 or for a little more.
+#[test]
+fn pools_add_up_more_than_32_bits() {
+    const TOP: u32 = u32::MAX;
+    let sums: [&[u32]; 6] = [
+        &[1 << 31, 1 << 31],
+        &[TOP, 1],
+        &[TOP, 2],
+        &[1, TOP, 0, 7],
+        &[1 << 28; 16],
+        &[TOP; 16],
+    ];
+    for sum in sums {
+        let reserved: Vec<_> = sum.iter().map(|&number| (number, TOP, 0)).collect();
+        let drawn: Vec<_> = sum.iter().map(|&number| (0, TOP, number)).collect();
+        for words in [0, 1, 7, 65_536] {
+            assert_eq!(answers(words, &reserved), [3; 3]);
+            assert_eq!(answers(words, &drawn), [0, 3, 3]);
+        }
+    }
+    assert_eq!(answers(0, &[(1 << 31, TOP, 0), (0, TOP, 1 << 31)]), [3; 3]);
+}
+
+/// 17 is for every number that is not below theirs.
+#[test]
+fn draws_take_numbers_below_the_signers() {
+    for number in 1..=16 {
+        let records = vec![(0, 1, 0); number];
+        for signer in 0..number {
+            assert_eq!(start_of(20, &records, signer, 1), Ok(0));
+        }
+        for signer in [number, number + 1, 16, 17, 255, 256, 65_536] {
+            assert_eq!(start_of(20, &records, signer, 1), Err(17));
+        }
+        for signer in [1 << 32, (1 << 32) + number - 1, 1 << 63, usize::MAX] {
+            assert_eq!(start_of(20, &records, signer, 0), Err(17));
+        }
+    }
+}
+
+/// 18 is for every q above cap - drawn, also where the sum has 33 or 65 bits, and for no other.
+#[test]
+fn draws_stay_within_the_cap() {
+    for (cap, drawn) in [(0, 0), (5, 0), (5, 4), (5, 5), (60_000, 7)] {
+        let records = [(0, cap, drawn), (0, 9, 3)];
+        let most = (cap - drawn) as usize;
+        let start = drawn as usize + 3;
+        assert_eq!(start_of(65_536, &records, 0, most), Ok(start));
+        for q in [most + 1, 1 << 32, (1 << 32) + most, usize::MAX] {
+            assert_eq!(start_of(65_536, &records, 0, q), Err(18));
+        }
+        let wrapped = (1 << 32) - drawn as usize;
+        assert_eq!(start_of(65_536, &records, 0, wrapped), Err(18));
+    }
+    // Up to the largest cap the words are tried, and above it the cap.
+    let records = [(0, u32::MAX, 9)];
+    let most = u32::MAX as usize - 9;
+    for q in [65_528, 1 << 31, most] {
+        assert_eq!(start_of(65_536, &records, 0, q), Err(19));
+    }
+    for q in [most + 1, usize::MAX - 9, usize::MAX - 8, usize::MAX] {
+        assert_eq!(start_of(65_536, &records, 0, q), Err(18));
+    }
+}
+
+/// 19 is for every q of which fewer words would be left than the others lack. The first has drawn
+/// more than its reserve, the second lacks 4, the third 2, and the fourth nothing.
+#[test]
+fn draws_leave_what_the_others_lack() {
+    let records = [(2, 99, 5), (6, 99, 2), (2, 99, 0), (0, 99, 1)];
+    for words in 14..40 {
+        let left = words - 8;
+        for (signer, lack) in [(0, 6), (1, 2), (2, 4), (3, 6)] {
+            for q in 0..=40 {
+                let granted = q + lack <= left;
+                let start = if granted { Ok(8) } else { Err(19) };
+                assert_eq!(start_of(words, &records, signer, q), start);
+            }
+        }
+    }
+}
+
+/// 3, then 17, then 18, then 19: each alone and with the later ones. Signer 0 has 5 to its cap, and
+/// the others leave 3 of the 10 words, or 12 of 19.
+#[test]
+fn draws_try_records_then_signer_then_cap_then_words() {
+    let sound = [(4, 6, 1), (3, 9, 2), (0, 3, 3)];
+    for (words, signer, q, answer) in [
+        (10, 0, 3, Ok(6)),
+        (10, 0, 4, Err(19)),
+        (10, 0, 5, Err(19)),
+        (10, 0, 6, Err(18)),
+        (19, 0, 5, Ok(6)),
+        (19, 0, 6, Err(18)),
+        (10, 3, 0, Err(17)),
+        (10, 3, 4, Err(17)),
+        (19, 3, 6, Err(17)),
+        (10, 3, usize::MAX, Err(17)),
+        (9, 0, 0, Err(3)),
+        (9, 0, 4, Err(3)),
+        (9, 0, 6, Err(3)),
+        (9, 3, 0, Err(3)),
+        (9, 3, usize::MAX, Err(3)),
+    ] {
+        assert_eq!(start_of(words, &sound, signer, q), answer);
+    }
+    let unsound = [(4, 6, 1), (3, 9, 2), (0, 3, 4)];
+    for (signer, q) in [(0, 0), (0, 6), (3, 0), (3, usize::MAX), (2, 0)] {
+        assert_eq!(start_of(100, &unsound, signer, q), Err(3));
     }
 }

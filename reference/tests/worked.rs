@@ -1,7 +1,7 @@
 //! 01, "Checked by hand": every case, with the answers that stand there. 02, by hand: order 1, the
 //! columns that these walks use; order 2, results of four samples; order 4, cumulative tables;
 //! order 5, weights for signed use; order 6, the value bits of every number of rows; order 7, strings
-//! for rows.
+//! for rows; order 9, signers that draw from one buffer.
 
 use reference::compiler::{compile, translate, value_bits, VALUE_BIT_CASES};
 use reference::cumulative::{export, import, lookup, sums, Exported};
@@ -10,6 +10,8 @@ use reference::listing::lister;
 use reference::machine::{resume, start};
 use reference::matrix::{check, read, write, Matrix};
 use reference::natural::Natural;
+use reference::pool;
+use reference::pools::Pool;
 use reference::program;
 use reference::refusal::Answer;
 use reference::walk::{spent, walk, Walked};
@@ -593,4 +595,114 @@ fn strings_for_rows_of_the_last_column() {
 fn strings_for_rows_with_several_ones() {
     let strings = texts(&["0100", "0000", "1000"]);
     assert_eq!(strings_for(&["0110", "0101", "0011"]), strings);
+}
+
+/// Reserve, cap and what was drawn, of each signer.
+type Records<'a> = &'a [(u32, u32, u32)];
+
+/// What a draw on these records comes to: the start, and what each signer has drawn after it.
+fn drawn(words: usize, records: Records, signer: usize, q: usize) -> Answer<(usize, Vec<u32>)> {
+    let before = Pool::of(words, records).signers;
+    let granted = pool::draw(words, &before, signer, q)?;
+    // Nothing else changes.
+    let mut wanted = before.clone();
+    wanted[signer].drawn += q as u32;
+    assert_eq!(granted.signers, wanted);
+    let after = granted.signers.iter().map(|signer| signer.drawn);
+    Ok((granted.start, after.collect()))
+}
+
+/// What an opening, or a refill, of these records comes to: what each signer has drawn after it.
+fn cleared(words: usize, records: Records, refilled: bool) -> Answer<Vec<u32>> {
+    let before = Pool::of(words, records).signers;
+    let after = match refilled {
+        false => pool::open(words, &before)?,
+        true => pool::refill(words, &before)?,
+    };
+    for (one, other) in before.iter().zip(&after) {
+        assert_eq!((one.reserve, one.cap), (other.reserve, other.cap));
+    }
+    Ok(after.iter().map(|signer| signer.drawn).collect())
+}
+
+/// Of 12 words signer 0 is sure of 2, signer 1 of 3, and may not have more, and signer 2 of none.
+#[test]
+fn three_signers_draw_from_twelve_words() {
+    let pool = |drawn: [u32; 3]| [(2, 6, drawn[0]), (3, 3, drawn[1]), (0, 12, drawn[2])];
+    let draw = |before: [u32; 3], signer, q| drawn(12, &pool(before), signer, q);
+    assert_eq!(cleared(12, &pool([9, 9, 9]), false), Ok(vec![0; 3]));
+    // 8 leaves 4, and the others lack 5; 7 leaves these.
+    assert_eq!(draw([0, 0, 0], 2, 8), Err(19));
+    assert_eq!(draw([0, 0, 0], 2, 7), Ok((0, vec![0, 0, 7])));
+    assert_eq!(draw([0, 0, 7], 2, 1), Err(19));
+    // Signer 0 has its reserve, and no more, since signer 1 lacks the 3 words that are left.
+    assert_eq!(draw([0, 0, 7], 0, 3), Err(19));
+    assert_eq!(draw([0, 0, 7], 0, 2), Ok((7, vec![2, 0, 7])));
+    assert_eq!(draw([2, 0, 7], 0, 1), Err(19));
+    assert_eq!(draw([2, 0, 7], 1, 4), Err(18));
+    assert_eq!(draw([2, 0, 7], 1, 1), Ok((9, vec![2, 1, 7])));
+    assert_eq!(draw([2, 1, 7], 1, 2), Ok((10, vec![2, 3, 7])));
+    // Nothing is left, and the next word would be word 12.
+    assert_eq!(draw([2, 3, 7], 0, 1), Err(19));
+    assert_eq!(draw([2, 3, 7], 1, 1), Err(18));
+    for signer in 0..3 {
+        assert_eq!(draw([2, 3, 7], signer, 0), Ok((12, vec![2, 3, 7])));
+    }
+    assert_eq!(draw([2, 3, 7], 3, 0), Err(17));
+    assert_eq!(cleared(12, &pool([2, 3, 7]), true), Ok(vec![0; 3]));
+}
+
+/// One signer lacks nothing of another's: it may have all words up to its cap.
+#[test]
+fn one_signer_draws_all_words() {
+    assert_eq!(drawn(5, &[(5, 9, 0)], 0, 2), Ok((0, vec![2])));
+    assert_eq!(drawn(5, &[(5, 9, 2)], 0, 3), Ok((2, vec![5])));
+    assert_eq!(drawn(5, &[(5, 9, 2)], 0, 4), Err(19));
+    assert_eq!(drawn(5, &[(5, 9, 5)], 0, 5), Err(18));
+    assert_eq!(drawn(5, &[(0, 3, 0)], 0, 4), Err(18));
+    assert_eq!(drawn(5, &[(0, 3, 0)], 0, 3), Ok((0, vec![3])));
+}
+
+/// What a signer lacks itself does not hold its own draw up, and holds up those of all others.
+#[test]
+fn a_reserve_is_its_signers() {
+    assert_eq!(drawn(4, &[(4, 4, 0), (0, 4, 0)], 1, 1), Err(19));
+    for q in 0..=4 {
+        let granted = drawn(4, &[(4, 4, 0), (0, 4, 0)], 0, q);
+        assert_eq!(granted, Ok((0, vec![q as u32, 0])));
+    }
+    // Who has drawn more than its reserve lacks nothing, and not less than nothing.
+    assert_eq!(drawn(9, &[(1, 9, 5), (2, 9, 0)], 1, 4), Ok((5, vec![5, 4])));
+    assert_eq!(drawn(9, &[(1, 9, 5), (2, 9, 0)], 0, 3), Err(19));
+    assert_eq!(drawn(9, &[(1, 9, 5), (2, 9, 0)], 0, 2), Ok((5, vec![7, 0])));
+}
+
+/// A buffer of no words can be opened where nothing is reserved, and gives nothing.
+#[test]
+fn no_words_at_all() {
+    assert_eq!(cleared(0, &[(0, 7, 1), (0, 0, 5)], false), Ok(vec![0, 0]));
+    assert_eq!(cleared(0, &[(0, 7, 0), (1, 1, 0)], false), Err(3));
+    assert_eq!(drawn(0, &[(0, 7, 0)], 0, 0), Ok((0, vec![0])));
+    assert_eq!(drawn(0, &[(0, 7, 0)], 0, 1), Err(19));
+    assert_eq!(drawn(0, &[(0, 7, 1)], 0, 0), Err(3));
+}
+
+/// What an opening and draws can not leave: a reserve or draws above a cap; reserves, or draws, of
+/// which there are not as many words; the last take 9 words, 6 that the first has drawn and 3 that the
+/// second is sure of, of which it has drawn one.
+#[test]
+fn records_that_draws_can_not_leave() {
+    for (words, records) in [
+        (9, &[(3, 2, 0), (0, 5, 0)][..]),
+        (9, &[(1, 2, 3), (0, 5, 0)]),
+        (9, &[(4, 9, 5), (5, 5, 0)]),
+        (9, &[(0, 9, 5), (0, 9, 5)]),
+        (8, &[(1, 9, 6), (3, 9, 1)]),
+    ] {
+        assert_eq!(drawn(words, records, 0, 0), Err(3));
+        assert_eq!(cleared(words, records, true), Err(3));
+    }
+    let edge = [(1, 9, 6), (3, 9, 1)];
+    assert_eq!(drawn(9, &edge, 0, 0), Ok((7, vec![6, 1])));
+    assert_eq!(cleared(9, &edge, true), Ok(vec![0, 0]));
 }

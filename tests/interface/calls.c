@@ -148,6 +148,41 @@ uint32_t through_lookup(const uint64_t *table, size_t table_length, size_t colum
 }
 SAME_TYPE(lookup);
 
+/* ---- pools ---- */
+
+uint32_t through_pool_open(size_t words, struct corkhollow_signer *signers, size_t signers_length)
+{
+    return corkhollow_pool_open(words, signers, signers_length);
+}
+SAME_TYPE(pool_open);
+
+uint32_t through_pool_draw(size_t words, struct corkhollow_signer *signers, size_t signers_length, size_t signer, size_t q, size_t *start)
+{
+    return corkhollow_pool_draw(words, signers, signers_length, signer, q, start);
+}
+SAME_TYPE(pool_draw);
+
+uint32_t through_pool_refill(size_t words, struct corkhollow_signer *signers, size_t signers_length)
+{
+    return corkhollow_pool_refill(words, signers, signers_length);
+}
+SAME_TYPE(pool_refill);
+
+/* The numbers of a record are of 32 bits and without a sign. */
+#define IS_SHORT(field) _Static_assert(_Generic(((struct corkhollow_signer *)0)->field, uint32_t: 1, default: 0), #field)
+IS_SHORT(reserve);
+IS_SHORT(cap);
+IS_SHORT(drawn);
+
+/* The bytes of a record, its alignment, and where reserve, cap and drawn lie. */
+const size_t through_signer[] = {
+    sizeof(struct corkhollow_signer),
+    _Alignof(struct corkhollow_signer),
+    offsetof(struct corkhollow_signer, reserve),
+    offsetof(struct corkhollow_signer, cap),
+    offsetof(struct corkhollow_signer, drawn),
+};
+
 /* ---- numbers, in the order of src/numbers.rs ---- */
 
 const uint64_t through_numbers[] = {
@@ -168,6 +203,9 @@ const uint64_t through_numbers[] = {
     CORKHOLLOW_MULTIPLIER,
     CORKHOLLOW_TABLE,
     CORKHOLLOW_STEP,
+    CORKHOLLOW_SIGNER,
+    CORKHOLLOW_CAP,
+    CORKHOLLOW_RESERVE,
     CORKHOLLOW_LANES,
     CORKHOLLOW_ROWS,
     CORKHOLLOW_COLUMNS,
@@ -177,6 +215,8 @@ const uint64_t through_numbers[] = {
     CORKHOLLOW_INSTRUCTIONS,
     CORKHOLLOW_MOST_MULTIPLIER,
     CORKHOLLOW_TABLE_COLUMNS,
+    CORKHOLLOW_SIGNERS,
+    CORKHOLLOW_POOL_WORDS,
     CORKHOLLOW_MISS,
     CORKHOLLOW_SIGNED_MISS,
     CORKHOLLOW_COMBINED_MISS,

@@ -2,7 +2,7 @@
 //! columns also on the most. What it must answer is worked out by hand from 01 and 02, so that this needs nothing but `core`.
 
 use crate::corkhollow::{
-    self, Header, Refusal, Run, Walk, COMBINED_MISS, LANES, MISS, SIGNED_MISS,
+    self, Header, Refusal, Run, Signer, Walk, COMBINED_MISS, LANES, MISS, SIGNED_MISS,
 };
 
 /// Says which function answered something else.
@@ -60,6 +60,7 @@ pub fn all() -> Checked {
     cumulative_tables()?;
     looked_up()?;
     the_most_columns()?;
+    pools()?;
     must("refusal", a_refusal() == Err(Refusal(1)))
 }
 
@@ -375,4 +376,59 @@ fn the_most_columns_drawn() -> Checked {
     must("slice", sliced == Ok(()) && words == wanted)?;
     let wider = corkhollow::slice(193, &[0; 64 * 25], &mut words);
     must("slice", wider == Err(Refusal(3)) && words == wanted)
+}
+
+/// 02, order 9: two signers, sure of 2 and 3 words, of which so many are drawn; signer 1 may not have more than its 3.
+fn signers(one: u32, other: u32) -> [Signer; 2] {
+    [(2, 9, one), (3, 3, other)].map(|(reserve, cap, drawn)| Signer {
+        reserve,
+        cap,
+        drawn,
+    })
+}
+
+/// On 8 words from the opening on: where draws start, what they add, and what is refused; then a refill.
+fn pools() -> Checked {
+    let limits = (corkhollow::SIGNERS, corkhollow::POOL_WORDS);
+    must("limits", limits == (16, 65_536))?;
+    let mut pool = signers(7, 4_000_000_000);
+    let opened = corkhollow::pool_open(8, &mut pool);
+    must("pool_open", opened == Ok(()) && pool == signers(0, 0))?;
+    for (signer, q, answer, left) in [
+        (0, 6, Err(Refusal(19)), (0, 0)), // would leave 2, and signer 1 lacks 3
+        (0, 4, Ok(0), (4, 0)),
+        (1, 4, Err(Refusal(18)), (4, 0)),
+        (1, 2, Ok(4), (4, 2)),
+        (2, 0, Err(Refusal(17)), (4, 2)),
+        (0, 2, Err(Refusal(19)), (4, 2)), // would leave none, and signer 1 lacks 1
+        (0, 1, Ok(6), (5, 2)),
+        (1, 1, Ok(7), (5, 3)),
+        (1, 0, Ok(8), (5, 3)),
+        (0, usize::MAX, Err(Refusal(18)), (5, 3)),
+    ] {
+        let drawn = corkhollow::pool_draw(8, &mut pool, signer, q);
+        let after = signers(left.0, left.1);
+        must("pool_draw", drawn == answer && pool == after)?;
+    }
+    let refilled = corkhollow::pool_refill(8, &mut pool);
+    must("pool_refill", refilled == Ok(()) && pool == signers(0, 0))?;
+    no_pools()
+}
+
+/// 3: too few words for the reserves, too many words, draws above a cap, no signers. An opening does not look at draws.
+fn no_pools() -> Checked {
+    let size = Err(Refusal(3));
+    for (words, one, other, opens) in [(4, 0, 0, false), (65_537, 0, 0, false), (8, 1, 4, true)] {
+        let mut pool = signers(one, other);
+        let drawn = corkhollow::pool_draw(words, &mut pool, 0, 0);
+        must("pool_draw", drawn == Err(Refusal(3)))?;
+        must(
+            "pool_refill",
+            corkhollow::pool_refill(words, &mut pool) == size,
+        )?;
+        must("a refused pool", pool == signers(one, other))?;
+        let opened = corkhollow::pool_open(words, &mut pool);
+        must("pool_open", opened == if opens { Ok(()) } else { size })?;
+    }
+    must("pool_open", corkhollow::pool_open(8, &mut []) == size)
 }

@@ -41,6 +41,25 @@ all-of : {A : Type 0} (o : Outcome A) → o ≡ mapped (λ a. a) o
 all-of (refused n) = refl
 all-of (gives a) = refl
 
+-- what is returned and told of an answer x, which is the case y
+module _ {X A : Type 0} (say : X → Outcome A) where
+  pub returned-is : {x y : X} {r : ℕ} → x ≡ y → Returns (say y) r → r ≡ returned (say x)
+  returned-is {x} {y} c a = returns-of say (λ b. b) (say x) c (all-of (say x)) a
+
+  pub told-is : {B : Type 0} (part : A → B) {x y : X} {new : B} (old : B) → x ≡ y → Tells part (say y) old new → new ≡ told part (say x) old
+  told-is part {x} old c a = tells-of say (λ b. b) part (say x) old c (all-of (say x)) a
+
+-- what is returned and told of a part of an outcome is returned and told of the outcome
+pub returned-part : {A B : Type 0} (f : A → B) (o : Outcome A) → returned (mapped f o) ≡ returned o
+unfolding returned
+returned-part f (refused n) = refl
+returned-part f (gives a) = refl
+
+pub told-part : {A B C : Type 0} (f : A → B) (g : B → C) (o : Outcome A) (old : C) → told g (mapped f o) old ≡ told (λ a. g (f a)) o old
+unfolding told
+told-part f g (refused n) old = refl
+told-part f g (gives a) old = refl
+
 -- ---- the functions by what they tell; P and Q are what the operation's contract says of the buffers
 -- a result is laid down, and nothing told
 pub lays : {X A B P : Type 0} (say : X → Outcome B) (f : A → B) (o : Outcome A) {x y : X} {r : ℕ} → x ≡ y → (say x ≡ mapped f o) × P →

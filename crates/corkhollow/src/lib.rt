@@ -4,6 +4,7 @@
 // operation that it wraps, through specs/Calls.antt.
 mod draws;
 mod matrices;
+mod pools;
 mod runs;
 mod samples;
 mod signed;
@@ -17,6 +18,9 @@ pub use matrices::corkhollow_spent;
 pub use matrices::corkhollow_string_for;
 pub use matrices::corkhollow_walk;
 pub use matrices::corkhollow_write;
+pub use pools::corkhollow_pool_draw;
+pub use pools::corkhollow_pool_open;
+pub use pools::corkhollow_pool_refill;
 pub use runs::corkhollow_check;
 pub use runs::corkhollow_compile;
 pub use runs::corkhollow_resume;

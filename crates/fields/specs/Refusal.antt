@@ -4,7 +4,7 @@ use Rattle.laws.specs.Outcome.{Outcome, refused, gives}
 use Rattle.fields.specs.declared.refusals.Refusal.{Refusal}
 use Rattle.fields.specs.declared.refusals.Refusal.the-variants.{Short, Kind, Size, Length, Bit, Sum, Instruction}
 use Rattle.fields.specs.declared.refusals.Refusal.the-variants.{Operand, Unwritten, Unset, Weightless, Position, Buffer}
-use Rattle.fields.specs.declared.refusals.Refusal.the-variants.{Multiplier, Table, Step}
+use Rattle.fields.specs.declared.refusals.Refusal.the-variants.{Multiplier, Table, Step, Signer, Cap, Reserve}
 use Rattle.fields.specs.declared.refusals.Written.{Written}
 use Rattle.fields.specs.declared.refusals.Written.the-variants as Written
 
@@ -25,6 +25,9 @@ numberOf Buffer = 13
 numberOf Multiplier = 14
 numberOf Table = 15
 numberOf Step = 16
+numberOf Signer = 17
+numberOf Cap = 18
+numberOf Reserve = 19
 
 -- the cases of a writer's answer in 01's numbers
 abbrev pub written : Written → Outcome ℕ

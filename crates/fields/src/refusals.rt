@@ -20,6 +20,9 @@ pub enum Refusal {
     Multiplier,
     Table,
     Step,
+    Signer,
+    Cap,
+    Reserve,
 }
 
 // A refusal, or the number of bytes written.
@@ -49,5 +52,8 @@ pub fn number(refusal: Refusal) -> u32
         Refusal::Multiplier => 14,
         Refusal::Table => 15,
         Refusal::Step => 16,
+        Refusal::Signer => 17,
+        Refusal::Cap => 18,
+        Refusal::Reserve => 19,
     }
 }

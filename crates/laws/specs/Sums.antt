@@ -2,8 +2,8 @@
 use Prim.Native.Nat.{ℕ, zero, suc, _+_, _*_, _≤_, _<_}
 use mathlib.Core.Path.{_≡_, refl, sym, ap}
 use mathlib.Core.Bool.{Bool, true, false, _||_}
-use mathlib.Core.Logic.{⊎-elim}
-use native.Mathlib.Nat.{add-zero, eq-or-lt-of-le, le-of-suc-le-suc}
+use mathlib.Core.Logic.{_≢_, ⊎-elim}
+use native.Mathlib.Nat.{add-zero, eq-or-lt-of-le, le-of-suc-le-suc, lt-irrefl}
 use native.Mathlib.Numerals.{add-one}
 use native.Mathlib.Omega.{arith}
 use Rattle.laws.specs.Tests.{neither, reached}
@@ -82,6 +82,14 @@ sum-front-le i zero g h =
 sum-front-le i (suc n) g h =
     ⊎-elim (λ (q : i ≡ suc n). rw q (omega arith)) (λ (q : i < suc n). omega (arith, sum-front-le i n g (le-of-suc-le-suc q)))
     (eq-or-lt-of-le h)
+
+-- sums whose terms are the same but for one place
+pub sum-changed : (n i : ℕ) (f g : ℕ → ℕ) → i < n → ((j : ℕ) → j ≢ i → f j ≡ g j) → sumTo n f + g i ≡ sumTo n g + f i
+unfolding sumTo
+sum-changed zero i f g h e = absurd (omega arith)
+sum-changed (suc n) i f g h e =
+    ⊎-elim (λ (q : i ≡ n). rw q (omega (arith, sum-eq n f g (λ j l. e j (λ r. lt-irrefl n (omega arith))))))
+    (λ (q : i < n). omega (arith, sum-changed n i f g q e, e n (λ r. lt-irrefl n (omega arith)))) (eq-or-lt-of-le (le-of-suc-le-suc h))
 
 -- ---- tests, in the words of a loop that counts up and leaves at the first that passes
 pub any-none : (t : ℕ → Bool) → any 0 t ≡ false

@@ -8,6 +8,7 @@ use crate::draws::{draw, draw_signed};
 use crate::lanes::{samples, signed_samples, slice, MISS};
 use crate::machine::{resume, start, Run};
 use crate::matrix::{read, write};
+use crate::pool;
 use crate::program::check;
 use crate::refusal::Answer;
 use crate::walk::{spent, walk};
@@ -122,6 +123,17 @@ fn carry_out(task: Task, fields: &mut Fields) -> Result<Answer<Line>, Malformed>
                 let line = done().number(u64::from(laid.is_some()));
                 line.result(&laid.unwrap_or_default())
             })
+        }
+        Task::PoolOpen => {
+            pool::open(fields.size()?, &fields.signers()?).map(|laid| done().result(&laid))
+        }
+        Task::PoolDraw => {
+            let (words, signers) = (fields.size()?, fields.signers()?);
+            pool::draw(words, &signers, fields.size()?, fields.size()?)
+                .map(|granted| done().size(granted.start).result(&granted.signers))
+        }
+        Task::PoolRefill => {
+            pool::refill(fields.size()?, &fields.signers()?).map(|laid| done().result(&laid))
         }
     })
 }
@@ -252,7 +264,7 @@ mod tests {
         assert_eq!(answer(&format!("e {file} {strings}")).unwrap(), "0 80");
         assert_eq!(answer(&format!("e {file} {}", &strings[2..])).unwrap(), "d");
         assert_eq!(answer("1 - 0").unwrap(), "1");
-        assert!(answer("19 00").is_err());
+        assert!(answer("1c 00").is_err());
         assert!(answer("1 0").is_err());
     }
 
@@ -310,5 +322,29 @@ mod tests {
         assert_eq!(answer(&format!("18 {zero} 0 0")).unwrap(), "d");
         assert!(answer(&format!("18 {file} 1")).is_err());
         assert!(answer(&format!("18 {file} 1 1 1")).is_err());
+    }
+
+    /// Of five words 2 and 1 are reserved: the first may draw at most 4, and with its cap 3.
+    #[test]
+    fn answers_lines_of_pools() {
+        let signers = |drawn: u32| format!("0000000200000003{drawn:08x}0000000100000001{:08x}", 0);
+        let opened = format!("0 {}", signers(0));
+        assert_eq!(answer(&format!("19 5 {}", signers(9))).unwrap(), opened);
+        assert_eq!(answer(&format!("19 2 {}", signers(0))).unwrap(), "3");
+        let granted = format!("0 1 {}", signers(3));
+        assert_eq!(
+            answer(&format!("1a 5 {} 0 2", signers(1))).unwrap(),
+            granted
+        );
+        for (words, signer, q, number) in [(5, 2, 0, "11"), (5, 0, 3, "12"), (3, 0, 2, "13")] {
+            let given = format!("1a {words} {} {signer} {q}", signers(1));
+            assert_eq!(answer(&given).unwrap(), number);
+        }
+        assert_eq!(answer(&format!("1b 4 {}", signers(3))).unwrap(), opened);
+        assert_eq!(answer(&format!("1b 3 {}", signers(3))).unwrap(), "3");
+        assert_eq!(answer("1a 0 - 0 0").unwrap(), "3");
+        assert!(answer(&format!("19 5 {}", &signers(0)[8..])).is_err());
+        assert!(answer(&format!("1a 5 {} 0", signers(0))).is_err());
+        assert!(answer(&format!("1b 5 {} 0", signers(0))).is_err());
     }
 }

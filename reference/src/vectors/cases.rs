@@ -2,6 +2,7 @@
 //! operation's parameters.
 
 use super::line::{Line, Task};
+use crate::pools::Pool;
 
 pub fn read(file: &[u8], entries_lent: usize) -> Line {
     Line::new(Task::Read).array(file).size(entries_lent)
@@ -108,6 +109,22 @@ pub fn lookup(table: &[u64], columns: usize, r: u64) -> Line {
 pub fn string_for(file: &[u8], row: usize, string_lent: usize) -> Line {
     let line = Line::new(Task::StringFor).array(file);
     line.size(row).size(string_lent)
+}
+
+pub fn pool_open(pool: &Pool) -> Line {
+    pool_fields(Task::PoolOpen, pool)
+}
+
+pub fn pool_draw(pool: &Pool, signer: usize, q: usize) -> Line {
+    pool_fields(Task::PoolDraw, pool).size(signer).size(q)
+}
+
+pub fn pool_refill(pool: &Pool) -> Line {
+    pool_fields(Task::PoolRefill, pool)
+}
+
+fn pool_fields(task: Task, pool: &Pool) -> Line {
+    Line::new(task).size(pool.words).array(&pool.signers)
 }
 
 /// A matrix file is read, and what was read is written.

@@ -1,5 +1,6 @@
 //! The text of a vector: fields in hexadecimal, one space between any two.
 
+use crate::pool::Signer;
 use std::fmt;
 
 /// Results of more bytes than these are given by their hash.
@@ -32,11 +33,14 @@ pub enum Task {
     Export = 0x16,
     Lookup = 0x17,
     StringFor = 0x18,
+    PoolOpen = 0x19,
+    PoolDraw = 0x1a,
+    PoolRefill = 0x1b,
 }
 
 impl Task {
     /// All of them.
-    pub const ALL: [Task; 24] = [
+    pub const ALL: [Task; 27] = [
         Task::Read,
         Task::Write,
         Task::Build,
@@ -61,6 +65,9 @@ impl Task {
         Task::Export,
         Task::Lookup,
         Task::StringFor,
+        Task::PoolOpen,
+        Task::PoolDraw,
+        Task::PoolRefill,
     ];
 
     /// The operation with this number.
@@ -84,6 +91,7 @@ impl Task {
             Task::Slice | Task::Samples | Task::SignedSamples => "vectors_lanes",
             Task::Draw | Task::DrawSigned | Task::Draws | Task::Combine => "vectors_lanes",
             Task::Import | Task::Export | Task::Lookup => "vectors_tables",
+            Task::PoolOpen | Task::PoolDraw | Task::PoolRefill => "vectors_pool",
         }
     }
 }
@@ -138,6 +146,20 @@ impl Element for u64 {
     }
     fn bytes(self) -> Vec<u8> {
         self.to_le_bytes().to_vec()
+    }
+}
+
+/// Reserve, cap and what was drawn, in this order.
+impl Element for Signer {
+    fn digits(self) -> String {
+        [self.reserve, self.cap, self.drawn]
+            .map(u32::digits)
+            .concat()
+    }
+    fn bytes(self) -> Vec<u8> {
+        [self.reserve, self.cap, self.drawn]
+            .map(u32::bytes)
+            .concat()
     }
 }
 
@@ -288,6 +310,20 @@ impl<'a> Fields<'a> {
         self.array(16, |number| number)
     }
 
+    /// The next field as records of signers, of three numbers each.
+    pub fn signers(&mut self) -> Result<Vec<Signer>, Malformed> {
+        let numbers = self.short_numbers()?;
+        let records = numbers.chunks(3).map(|record| match *record {
+            [reserve, cap, drawn] => Ok(Signer {
+                reserve,
+                cap,
+                drawn,
+            }),
+            _ => Err(Malformed("a record that is cut".to_string())),
+        });
+        records.collect()
+    }
+
     /// Nothing must be left.
     pub fn end(&mut self) -> Result<(), Malformed> {
         match self.rest.next() {
@@ -320,7 +356,7 @@ impl<'a> Fields<'a> {
 
 #[cfg(test)]
 mod tests {
-    use super::{Fields, Hash, Line, Task};
+    use super::{Fields, Hash, Line, Signer, Task};
 
     #[test]
     fn hashes_as_published() {
@@ -351,6 +387,16 @@ mod tests {
             .array(&words)
             .array::<u8>(&[]);
         let line = line.array(&[0u8, 255]).array(&[7u32]);
+        let (reserve, cap, drawn) = (1, u32::MAX, 0xabc);
+        let signers = [
+            Signer {
+                reserve,
+                cap,
+                drawn,
+            },
+            Signer::default(),
+        ];
+        let line = line.array(&signers).array::<Signer>(&[]);
         let text = line.array(&[-1i16, 32_767, -32_768]).to_string();
         assert!(text.starts_with("9 ff 0000000000000001ffffffffffffffff8000000000000000 - 00ff "));
         let mut fields = Fields::of(&text);
@@ -360,6 +406,8 @@ mod tests {
         assert_eq!(fields.bytes(), Ok(vec![]));
         assert_eq!(fields.bytes(), Ok(vec![0, 255]));
         assert_eq!(fields.short_numbers(), Ok(vec![7]));
+        assert_eq!(fields.signers(), Ok(signers.to_vec()));
+        assert_eq!(fields.signers(), Ok(vec![]));
         assert_eq!(fields.signed_samples(), Ok(vec![-1, 32_767, -32_768]));
         assert_eq!(fields.end(), Ok(()));
     }

@@ -9,6 +9,7 @@ mod damaged;
 mod foreign;
 mod instructions;
 pub mod line;
+mod pool;
 mod runs;
 mod sound;
 mod wanted;
@@ -46,6 +47,7 @@ pub fn each_given(scale: usize, mut visit: impl FnMut(&str)) {
     wanted::fixed(&mut Random::new(SEED), &mut put);
     columns::fixed(&mut Random::new(SEED), &mut put);
     instructions::fixed(&mut Random::new(SEED), &mut put);
+    pool::fixed(&mut put);
     if scale > 1 {
         damaged::thorough(&mut put);
         foreign::thorough(&mut put);
@@ -56,6 +58,7 @@ pub fn each_given(scale: usize, mut visit: impl FnMut(&str)) {
         wanted::thorough(&mut put);
         columns::thorough(&mut put);
         instructions::thorough(&mut put);
+        pool::thorough(&mut put);
     }
     for round in 1..=scale {
         let random = &mut Random::new(SEED + round as u64);
@@ -68,5 +71,6 @@ pub fn each_given(scale: usize, mut visit: impl FnMut(&str)) {
         wanted::round(random, &mut put);
         columns::round(random, &mut put);
         instructions::round(random, &mut put);
+        pool::round(random, &mut put);
     }
 }

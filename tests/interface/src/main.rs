@@ -14,6 +14,7 @@ mod long;
 mod matrices;
 mod memory;
 mod numbers;
+mod pool;
 mod programs;
 mod stack;
 mod table;
@@ -55,7 +56,7 @@ const fn operation(
     }
 }
 
-const OPERATIONS: [Operation; 21] = [
+const OPERATIONS: [Operation; 25] = [
     operation("read", matrices::read, &[1, 2, 3, 4, 5, 6, 13]),
     operation("write", matrices::write, &[3, 5, 6, 13]),
     // Each list is built twice.
@@ -95,6 +96,13 @@ const OPERATIONS: [Operation; 21] = [
     operation("import", cumulative::import, &[3, 13, 15, 16]),
     operation("export", cumulative::export, &[1, 2, 3, 4, 5, 6, 13]),
     operation("lookup", cumulative::lookup, &[3, 15, 16]),
+    operation("pool_open", pool::open, &[3]),
+    operation("pool_draw", pool::draw, &[3, 17, 18, 19]),
+    operation("pool_refill", pool::refill, &[3]),
+    Operation {
+        cases: 4_000,
+        ..operation("pool_draw ..", pool::sequence, &[17, 18, 19])
+    },
 ];
 
 fn main() {
@@ -109,6 +117,7 @@ fn main() {
     weights::compare();
     values::compare();
     wanted::compare();
+    pool::compare();
     columns::compare();
     long::compare();
     let stock = Stock::new(&mut Random::new(seed));

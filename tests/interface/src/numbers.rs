@@ -3,23 +3,25 @@
 use crate::corkhollow;
 use crate::trial::fail;
 use reference::refusal::{
-    BIT, BUFFER, INSTRUCTION, KIND, LENGTH, MULTIPLIER, OPERAND, POSITION, SHORT, SIZE, STEP,
-    TABLE, TOTAL, UNSET, UNWRITTEN, WEIGHTLESS,
+    BIT, BUFFER, CAP, INSTRUCTION, KIND, LENGTH, MULTIPLIER, OPERAND, POSITION, RESERVE, SHORT,
+    SIGNER, SIZE, STEP, TABLE, TOTAL, UNSET, UNWRITTEN, WEIGHTLESS,
 };
-use reference::{cumulative, lanes, lent, matrix, program, record, wide};
+use reference::{cumulative, lanes, lent, matrix, pool, program, record, wide};
+use std::mem::offset_of;
 
 extern "C" {
     static through_numbers: [u64; HEADER_NUMBERS];
     static through_numbers_length: usize;
+    static through_signer: [usize; 5];
     fn through_width(columns: usize) -> usize;
     fn through_matrix_length(rows: usize, columns: usize) -> usize;
 }
 
-/// The refusals and 0, nine limits, three misses, five lengths.
-const HEADER_NUMBERS: usize = REFUSALS.len() + 9 + 3 + 5;
+/// The refusals and 0, eleven limits, three misses, five lengths.
+const HEADER_NUMBERS: usize = REFUSALS.len() + 11 + 3 + 5;
 
 /// The refusals and 0, by the reference.
-const REFUSALS: [u32; 17] = [
+const REFUSALS: [u32; 20] = [
     lent::DONE,
     SHORT,
     KIND,
@@ -37,6 +39,9 @@ const REFUSALS: [u32; 17] = [
     MULTIPLIER,
     TABLE,
     STEP,
+    SIGNER,
+    CAP,
+    RESERVE,
 ];
 
 /// The most bytes of an instruction: length, kind, three operands.
@@ -61,6 +66,8 @@ fn others() -> [(usize, usize); HEADER_NUMBERS - REFUSALS.len()] {
         (program::MOST_INSTRUCTIONS, corkhollow::INSTRUCTIONS),
         (multiplier as usize, corkhollow::MOST_MULTIPLIER as usize),
         (cumulative::MOST_TABLE_COLUMNS, corkhollow::TABLE_COLUMNS),
+        (pool::MOST_SIGNERS, corkhollow::SIGNERS),
+        (pool::MOST_WORDS, corkhollow::POOL_WORDS),
         (miss, corkhollow::MISS as usize),
         (signed_miss, corkhollow::SIGNED_MISS as usize),
         (combined_miss as usize, corkhollow::COMBINED_MISS as usize),
@@ -102,6 +109,34 @@ pub fn compare() {
         );
     }
     lengths();
+    layout();
+}
+
+/// The bytes of a signer's record, its alignment, and where reserve, cap and drawn lie: in C, in the binding and in the reference, whose
+/// records are lent to both.
+fn layout() {
+    use corkhollow::Signer as Bound;
+    use pool::Signer;
+    let wanted = [12, 4, 0, 4, 8];
+    let fields = [
+        offset_of!(Bound, reserve),
+        offset_of!(Bound, cap),
+        offset_of!(Bound, drawn),
+    ];
+    let by_binding = [&[size_of::<Bound>(), align_of::<Bound>()], &fields[..]].concat();
+    let fields = [
+        offset_of!(Signer, reserve),
+        offset_of!(Signer, cap),
+        offset_of!(Signer, drawn),
+    ];
+    let by_reference = [&[size_of::<Signer>(), align_of::<Signer>()], &fields[..]].concat();
+    // SAFETY: calls.c defines five numbers.
+    let by_header = unsafe { through_signer };
+    for i in 0..wanted.len() {
+        same("the layout of a record in C", wanted[i], by_header[i]);
+        same("the layout in the binding", wanted[i], by_binding[i]);
+        same("the layout in the reference", wanted[i], by_reference[i]);
+    }
 }
 
 /// The lengths of strings and matrix files, for all sizes.

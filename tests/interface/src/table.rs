@@ -1,6 +1,6 @@
 //! The two ways to the engine: from C through the header, by calls.c, and by the declarations of the Rust binding.
 
-use crate::corkhollow::raw;
+use crate::corkhollow::{raw, Signer};
 
 /// Makes the table of both ways from one signature for each operation.
 macro_rules! tables {
@@ -64,4 +64,10 @@ tables! {
         (*const u8, usize, *mut u64, usize, *mut usize, *mut usize);
     lookup: through_lookup, corkhollow_lookup
         (*const u64, usize, usize, u64, *mut usize);
+    pool_open: through_pool_open, corkhollow_pool_open
+        (usize, *mut Signer, usize);
+    pool_draw: through_pool_draw, corkhollow_pool_draw
+        (usize, *mut Signer, usize, usize, usize, *mut usize);
+    pool_refill: through_pool_refill, corkhollow_pool_refill
+        (usize, *mut Signer, usize);
 }

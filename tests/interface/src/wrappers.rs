@@ -1,11 +1,12 @@
 //! The safe functions of the Rust binding, each on a sound input and on a refused one. What they wrap is tried elsewhere: here it shows
 //! that they hand everything on in its place.
 
-use crate::corkhollow::{self as binding, Header, Refusal, Run, Walk};
+use crate::corkhollow::{self as binding, Header, Refusal, Run, Signer, Walk};
 use crate::trial::{fail, ANSWERS};
 use reference::compiler::translate;
 use reference::lent::{self, DONE};
 use reference::matrix::Matrix;
+use reference::pools::Pool;
 use std::fmt::Debug;
 
 /// Compares what a safe function answers and leaves with what the reference returns, answers and leaves.
@@ -66,6 +67,7 @@ pub fn compare() {
         combine(if sound { 1_000 } else { 1_001 })
     });
     tables(&file);
+    pools();
     overlaps();
     words();
 }
@@ -355,6 +357,70 @@ fn lookup(r: u64, columns: usize) -> bool {
     let found = (sample != usize::from(binding::MISS)).then_some(sample);
     let answer = binding::lookup(&TABLE, columns, r);
     same("lookup", (answer, ()), (returned, found, ()))
+}
+
+/// Nine words, of which two signers have drawn one and four.
+const POOL: [(u32, u32, u32); 2] = [(2, 5, 1), (3, 9, 4)];
+
+fn pools() {
+    both("pool_open", |sound| pool_open(if sound { 5 } else { 4 }));
+    both("pool_draw", |sound| pool_draw(if sound { 3 } else { 4 }));
+    both("pool_refill", |sound| {
+        pool_refill(if sound { 6 } else { 5 })
+    });
+}
+
+/// The records for the binding, and after a call as the reference has them.
+fn bound() -> [Signer; 2] {
+    POOL.map(|(reserve, cap, drawn)| Signer {
+        reserve,
+        cap,
+        drawn,
+    })
+}
+
+fn numbers(signers: [Signer; 2]) -> Vec<(u32, u32, u32)> {
+    let numbers = |signer: Signer| (signer.reserve, signer.cap, signer.drawn);
+    signers.map(numbers).to_vec()
+}
+
+fn left(pool: &Pool) -> Vec<(u32, u32, u32)> {
+    let signers = pool.signers.iter();
+    signers.map(|s| (s.reserve, s.cap, s.drawn)).collect()
+}
+
+fn pool_open(words: usize) -> bool {
+    let (mut signers, mut pool) = (bound(), Pool::of(words, &POOL));
+    let answer = binding::pool_open(words, &mut signers);
+    let returned = lent::pool_open(words, &mut pool.signers);
+    same(
+        "pool_open",
+        (answer, numbers(signers)),
+        (returned, (), left(&pool)),
+    )
+}
+
+fn pool_draw(q: usize) -> bool {
+    let (mut signers, mut pool) = (bound(), Pool::of(9, &POOL));
+    let mut start = 0;
+    let answer = binding::pool_draw(9, &mut signers, 1, q);
+    let returned = lent::pool_draw(9, &mut pool.signers, 1, q, &mut start);
+    same(
+        "pool_draw",
+        (answer, numbers(signers)),
+        (returned, start, left(&pool)),
+    )
+}
+
+fn pool_refill(words: usize) -> bool {
+    let (mut signers, mut pool) = (bound(), Pool::of(words, &POOL));
+    let answer = binding::pool_refill(words, &mut signers);
+    let returned = lent::pool_refill(words, &mut pool.signers);
+    same(
+        "pool_refill",
+        (answer, numbers(signers)),
+        (returned, (), left(&pool)),
+    )
 }
 
 /// Buffers that are only read may overlap: here a file is also the string, the strings or the input words that go with it, and a list of

@@ -1,0 +1,2 @@
+-- What the walks of the functions over a list of signers share.
+pub mod Numbering

@@ -1,0 +1,2 @@
+-- What the walks of the operations share.
+pub mod Lending
