@@ -56,7 +56,7 @@ enum corkhollow_refusal {
     CORKHOLLOW_KIND = 2,        /* the first record is not of the kind expected: another file, also one cut short, from 4 bytes on */
     CORKHOLLOW_SIZE = 3,        /* rows, columns, weights, registers, inputs, outputs, instructions, output words, numbers of a cumulative
                                    table, a number that is looked up, signers, or words of a pool, outside the limits; a row asked for that
-                                   the matrix has not; reserves that no pool can be opened with, or records that it can not have */
+                                   the matrix has not; reserves that no pool can be opened with, or records that no draws can have left */
     CORKHOLLOW_LENGTH = 4,      /* a length field that is not what the header requires, or bytes left over */
     CORKHOLLOW_BIT = 5,         /* a spare bit set, an entry neither 0 nor 1, or an entry of a list that is no signed sample */
     CORKHOLLOW_SUM = 6,         /* the rows of the matrix add up to more than 2^columns */
@@ -347,6 +347,9 @@ uint32_t corkhollow_lookup(const uint64_t *table, size_t table_length,
  * the call before left them, and change nothing in them. No word is read, copied or cleared: a draw tells where in the buffer its words
  * start. A word is what the caller counts in, of 64 bits, say. Words that went out are the caller's to wipe once they are used.
  *
+ * `words` is not held against the buffer, which is not lent: where it is above the buffer's words, or another than at the opening, words
+ * are handed out that are not there, or go out twice. It counts words, not bytes.
+ *
  * Threads that share a pool must take turns in these calls, since each changes the records.
  */
 struct corkhollow_signer {
@@ -367,7 +370,7 @@ _Static_assert(CORKHOLLOW_SIGNER_FITS(_Alignof(struct corkhollow_signer)), "the 
 
 /*
  * Opens a pool of `words` words and `signers_length` signers, of which each record says reserve and cap: sets every `drawn` to 0, whatever
- * it was. Fill the buffer with random words before the first draw.
+ * it held. Fill the buffer with random words before the first draw.
  * Refusals: 3 for `words` above 65,536, for `signers_length` outside 1 to 16, for a reserve above its cap, or for reserves that together
  * are above `words`.
  */
@@ -376,8 +379,8 @@ uint32_t corkhollow_pool_open(size_t words,
 
 /*
  * Draws the next q words for one signer: tells in `start` the number of the first, so that they are the words from `start` on, and adds q
- * to the signer's `drawn`. Nothing else changes. With q = 0 it tells where the next words start. A draw that keeps the signer within its
- * reserve is always granted, whatever the others have drawn.
+ * to the signer's `drawn`. Nothing else changes. With q = 0 it tells where the next words start, which is `words` where none is left. What
+ * `start` holds before is of no account. A draw that keeps the signer within its reserve is always granted, whatever the others have drawn.
  *
  * Refusals, in the order tried: 3 for records that no opening and draws on so many words can leave; 17 for `signer` not below
  * `signers_length`; 18 where the signer would have drawn more than its cap; 19 where fewer words would be left than the other signers

@@ -19,7 +19,12 @@ pub fn begin() {
 }
 
 pub fn refuse(why: Refusal) {
-    io::print_hex(STDOUT_FILENO, fields::number(why) as u64, 1);
+    begin_with(fields::number(why) as u64);
+}
+
+// An answer begins with the number of a refusal, or with 0.
+pub fn begin_with(number: u64) {
+    io::print_hex(STDOUT_FILENO, number, 1);
 }
 
 pub fn end_line() {

@@ -100,6 +100,17 @@ pub any-more : (n : ℕ) (t : ℕ → Bool) → t n ≡ false → any n t ≡ fa
 unfolding any
 any-more n t e q = rw (add-one n, e, q)
 
+-- one more test, whether it passes or not
+pub any-next : (n : ℕ) (t : ℕ → Bool) → any (n + 1) t ≡ (any n t || t n)
+unfolding any
+any-next n t = rw (add-one n) (swapped (t n) (any n t))
+  where
+    swapped : (a b : Bool) → (a || b) ≡ (b || a)
+    swapped true true = refl
+    swapped true false = refl
+    swapped false true = refl
+    swapped false false = refl
+
 pub any-found : (n i : ℕ) (t : ℕ → Bool) → i < n → t i ≡ true → any n t ≡ true
 unfolding any
 any-found zero i t h e = absurd (omega arith)

@@ -37,14 +37,14 @@ use denote.Slice.{sliceTy, sliceVal, ShrSlice, MutSlice, Room, heres, codedHoley
 use denote.Lend.{Held, lends-shr-slice, lends-slice, slice-back}
 use denote.Index.{row, whole-in, whole-out, opens-slice, closes-slice}
 use denote.Signature.{plain}
-use denote.Builtin.{SliceRefMutOf, unit, usize, bool}
+use denote.Builtin.{unit, usize, bool}
 use denote.Struct.Laws as LL
 use denote.Enum.Laws as EL
 use denote.Exit.{yes}
 use denote.Triple.Statement.{Contract, Triple}
 use denote.Triple.Call.{calls-at, calls-at-last}
 use denote.Triple.Entry.{Vals, onEntry}
-use denote.Triple.Clauses.{Ended, Clauses, closing, ensured, lasts}
+use denote.Triple.Clauses.{Clauses, closing, ensured, lasts}
 use denote.Triple.Spec.{Meets, tripleOf}
 use denote.Triple.Walked.{says, Stays, stay-slice, stay-none, walkOf, Walks, ends-at, walked, goes-slice, goes-none, walk-meets}
 use denote.Steps.{only, nothing, owned, peeks, heard}
@@ -68,6 +68,7 @@ use Rattle.pool.proofs.signers.scan.Symbol.{name as #pool·scan}
 use Rattle.pool.proofs.signers.clear as clear
 use Rattle.pool.proofs.signers.clear.Symbol.{name as #pool·clear}
 use Rattle.pool.proofs.deciding.opens as opens
+use Rattle.pool.proofs.pools.renew as renew
 use Rattle.pool.proofs.pools.open as opening
 
 module _ {M : Type 1} (𝓤 : URA M) (H : Heap 𝓤) (A : Atoms 𝓤) (at-mem : Memory → SProp 𝓤) (run : Routine → Fun 𝓤) where
@@ -78,33 +79,12 @@ module _ {M : Type 1} (𝓤 : URA M) (H : Heap 𝓤) (A : Atoms 𝓤) (at-mem : 
   abbrev pub Clear : Contract 𝓤
   Clear = tripleOf 𝓤 H A clear.signature (clear.spec 𝓤 H A at-mem run)
 
--- `renew` is private to its file, so its contract is written out here, and its name is passed
-abbrev renewal : Ended
-renewal = record {
-  signature = record {
-    lifetimes = 1;
-    outlives = [];
-    params = SliceRefMutOf (0 ∷ []) tt (plain (λ _. T.the-row)) (λ _. tt) ∷ plain (λ _. bool) ∷ [];
-    result = plain (λ _. O.the-row);
-  };
-  kept = (yes, (yes, tt));
-}
+  abbrev pub Renew : Contract 𝓤
+  Renew = tripleOf 𝓤 H A renew.signature (renew.spec 𝓤 H A at-mem run)
 
--- what it says of its answer r, and of the list zs that it leaves of ys
+-- what `renew` says of its answer r, and of the list zs that it leaves of ys
 abbrev Renewed : Bool → List Signer → Opened → List Signer → Type 0
 Renewed t ys r zs = (openedOf r ≡ openedBy t) × (zs ≡ clearedIf t ys)
-
-module _ {M : Type 1} (𝓤 : URA M) where
-  abbrev renewed : Clauses 𝓤 renewal
-  renewed = λ κs x. record {
-    ghost = Unit {0};
-    requires = λ g. emp 𝓤;
-    ensures = λ g r end. fact 𝓤 (Renewed (x .1 .0) (now (x .0)) r (now (end .0)));
-  }
-
-module _ {M : Type 1} (𝓤 : URA M) (H : Heap 𝓤) (A : Atoms 𝓤) where
-  abbrev pub Renew : Contract 𝓤
-  Renew = tripleOf 𝓤 H A (renewal .signature) (closing 𝓤 H A renewal (renewed 𝓤))
 
 module _ {M : Type 1} {𝓤 : URA M} {H : Heap 𝓤} {A : Atoms 𝓤} (W : Given 𝓤 H A) (at-mem : Memory → SProp 𝓤) (run : Routine → Fun 𝓤)
     (ys : List Signer) (b o : ℕ) (room : Room T.the-row (length ys)) where
@@ -210,20 +190,20 @@ module _ {M : Type 1} {𝓤 : URA M} {H : Heap 𝓤} {A : Atoms 𝓤} (W : Given
 
   -- ---- the call of `renew`, on the list lent as `&mut` for the lifetime ν
   module _ (t : Bool) where
-    abbrev pub to-renew : ℕ → GName → Renew 𝓤 H A .Ghost
+    abbrev pub to-renew : ℕ → GName → Renew 𝓤 H A at-mem run .Ghost
     to-renew ν δ = (((ν ∷ [], tt), (fullShare, tt), tt, (X δ, (t, tt)), (s ∷ [], (vbool t ∷ [], tt))), tt)
 
     goes-renew : (ν : ℕ) (δ : GName) →
-        ent 𝓤 (sep 𝓤 (A .lft (ν ∷ []) fullShare) (sem 𝓤 H A (OwnMut ν δ))) (Renew 𝓤 H A .pre (to-renew ν δ))
+        ent 𝓤 (sep 𝓤 (A .lft (ν ∷ []) fullShare) (sem 𝓤 H A (OwnMut ν δ))) (Renew 𝓤 H A at-mem run .pre (to-renew ν δ))
     goes-renew ν δ =
         qed W (‵ (flft (ν ∷ []) fullShare) ∷ ‵ (OwnMut ν δ) ∷ []) ∵ nothing ! $ move ! (1 ∷ 0 ∷ []) $ join ! $ nothing ! $
         owned ! bool (Is bool) (bool-makes 𝓤 H A W) t _ refl $ fjoin ! $ move ! (2 ∷ 0 ∷ []) $ fjoin ! $
         move ! (1 ∷ 0 ∷ []) $ join ! $ frame ! $ done !
 
     pub renews : {C : Calls 𝓤 H} {Λ : Loops 𝓤 H} {E : Env 𝓤 H} {Γ : List (Item 𝓤)} {q : Post 𝓤 H} {d : Place} {rest : Body}
-        {os : List Operand} {h : Name} → FmC 𝓤 H (W .laws) C → Triple 𝓤 (C h) (Renew 𝓤 H A) →
+        {os : List Operand} {h : Name} → FmC 𝓤 H (W .laws) C → Triple 𝓤 (C h) (Renew 𝓤 H A at-mem run) →
         ((ν : ℕ) (δ : GName) →
-        Opds (Go {0}) W (raw (Renew 𝓤 H A .pre (to-renew ν δ)) ∷ ‵ (LenderMut ν δ) ∷ Γ) E os (s ∷ vbool t ∷ [])) →
+        Opds (Go {0}) W (raw (Renew 𝓤 H A at-mem run .pre (to-renew ν δ)) ∷ ‵ (LenderMut ν δ) ∷ Γ) E os (s ∷ vbool t ∷ [])) →
         ((r : Opened) (u : Val) → openedOf r ≡ openedBy t → Is O.the-row r (u ∷ []) →
         Seq (Go {0}) W (‵ (row T.the-row fullShare (clearedIf t ys) b o) ∷ Γ) (lands C Λ E d u rest q)) →
         Seq (Go {0}) W (‵ (row T.the-row fullShare ys b o) ∷ Γ) (runs C Λ E (seq (call h os d) rest) q)
@@ -231,12 +211,12 @@ module _ {M : Type 1} {𝓤 : URA M} {H : Heap 𝓤} {A : Atoms 𝓤} (W : Given
         use1 W (‵ (cells (mem T.the-row) ys b o)) (whole-in 𝓤 H A W T.the-row ys b o) $ lft-new ! tt (λ ν. move ! (1 ∷ []) $
         use1 W (later (some (λ (δ : GName). ‵ (OwnMut ν δ) ⊛ ‵ (LenderMut ν δ))))
         (lends-slice 𝓤 H A W T.the-row (named 0) (ν ∷ []) ys b o room) $ await ! tt $ pick ! (λ δ. split ! $
-        move ! (2 ∷ 0 ∷ []) $ use2 W (raw (Renew 𝓤 H A .pre (to-renew ν δ))) (goes-renew ν δ) $
-        calls-at ! fm (Renew 𝓤 H A) known (to-renew ν δ) (os ν δ) (λ u.
+        move ! (2 ∷ 0 ∷ []) $ use2 W (raw (Renew 𝓤 H A at-mem run .pre (to-renew ν δ))) (goes-renew ν δ) $
+        calls-at ! fm (Renew 𝓤 H A at-mem run) known (to-renew ν δ) (os ν δ) (λ u.
         use1 W (later (some (λ (r : Opened). ((‵ (flft (ν ∷ []) fullShare) ⊛ ‵ ftrue) ⊛ ‵ (O.the-row .own r (u ∷ []))) ⊛
-        raw (ensured 𝓤 H A renewal (renewed 𝓤) (ν ∷ [], tt) (X δ, (t, tt)) tt r)))) (id⊢ 𝓤 _) $
+        raw (ensured 𝓤 H A renew.ended (renew.clauses 𝓤 H A at-mem run) (ν ∷ [], tt) (X δ, (t, tt)) tt r)))) (id⊢ 𝓤 _) $
         await ! tt $ pick ! (λ r. split ! $ move ! (1 ∷ []) $
-        use1 W (some (λ (zs : List Signer × (Unit {0} × Unit {0})). ‵ (lasts renewal (ν ∷ [], tt) (X δ, (t, tt)) zs) ⊛
+        use1 W (some (λ (zs : List Signer × (Unit {0} × Unit {0})). ‵ (lasts renew.ended (ν ∷ [], tt) (X δ, (t, tt)) zs) ⊛
         raw (fact 𝓤 (Renewed t ys r (zs .0))))) (id⊢ 𝓤 _) $ pick ! (λ zs. split ! $ move ! (1 ∷ []) $
         heard ! (Renewed t ys r (zs .0)) (λ e. fsplit ! $ fsplit ! $ move ! (1 ∷ []) $ feqL ! (λ same.
         move ! (2 ∷ []) $ split ! $ move ! (1 ∷ []) $ peeks ! O.the-row (Is O.the-row) (shows 𝓤 H A O.the-row) r (u ∷ []) (λ ir. drop ! $
@@ -384,7 +364,7 @@ module _ {M : Type 1} (𝓤 : URA M) (H : Heap 𝓤) (A : Atoms 𝓤) (W : Given
     said-test a t = exE 𝓤 _ (λ ws. snd∗ 𝓤 (sem 𝓤 H A (lasts opens.ended tt (w, (n, (a, tt))) ws)) (fact 𝓤 (t ≡ test w n a)))
 
     walk : (g h : Name) (C : Calls 𝓤 H) (Λ : Loops 𝓤 H) → FmC 𝓤 H (W .laws) C → Triple 𝓤 (C #pool·scan) (Scan 𝓤 H A at-mem run)
-        → Triple 𝓤 (C g) (Tests 𝓤 H A test) → Triple 𝓤 (C h) (Renew 𝓤 H A)
+        → Triple 𝓤 (C g) (Tests 𝓤 H A test) → Triple 𝓤 (C h) (Renew 𝓤 H A at-mem run)
         → ent 𝓤 (onEntry 𝓤 H A opening.signature (κ, tt) (q, tt) x at)
         (WpFn 𝓤 H C Λ (renewing g h) (vint w64 w ∷ sliceVal (b, o) n ∷ []) Answered)
     walk g h C Λ fm known-scan known-test known-renew =
@@ -441,7 +421,7 @@ module _ {M : Type 1} (𝓤 : URA M) (H : Heap 𝓤) (A : Atoms 𝓤) (W : Given
         (does w ys 0 t r (p ∙ ap (test w n) (e .0)) said) ir)))))))))))))))))
 
   module _ (g h : Name) (𝓣 : Tables 𝓤 H) (known-scan : Triple 𝓤 (𝓣 .C #pool·scan) (Scan 𝓤 H A at-mem run))
-      (known-test : Triple 𝓤 (𝓣 .C g) (Tests 𝓤 H A test)) (known-renew : Triple 𝓤 (𝓣 .C h) (Renew 𝓤 H A)) where
+      (known-test : Triple 𝓤 (𝓣 .C g) (Tests 𝓤 H A test)) (known-renew : Triple 𝓤 (𝓣 .C h) (Renew 𝓤 H A at-mem run)) where
     walks : Walks 𝓤 H A opening.ended stayed (WpFn 𝓤 H (𝓣 .C) (𝓣 .Λ) (renewing g h)) (done-by 𝓤 op)
     walks =
         walked 𝓤 H A opening.ended stayed (done-by 𝓤 op) (WpFn 𝓤 H (𝓣 .C) (𝓣 .Λ) (renewing g h)) (λ κs. (uint-vals w64, (slice-vals, tt)))

@@ -7,11 +7,11 @@ use native.Mathlib.Omega.{arith}
 use lib.ListN.{length, length-set}
 use Rattle.laws.specs.Lay.{lay-nothing, lay-whole}
 use Rattle.laws.specs.Outcome.{Outcome, refused, gives}
-use Rattle.pool.specs.Pool.{signerAt, drawnByAll, cleared, drawing, Grant, drawOf}
+use Rattle.pool.specs.Pool.{signerAt, drawnByAll, cleared, drawing, Grant, grant, drawOf}
 use Rattle.pool.specs.Sequences.{Call, draw, refill, Range, Pool, after, afterAll, Consecutive}
 use Rattle.pool.specs.Sound.{Sound}
 use Rattle.pool.specs.Amounts.{sum-set, length-cleared, none-drawn}
-use Rattle.pool.specs.Kept.{grant, draw-given, kept-draw, kept-refill, refill-gives}
+use Rattle.pool.specs.Kept.{draw-given, kept-draw, kept-refill, refill-gives}
 
 module _ (W : ℕ) (p : Pool) where
   -- ---- a call that is refused leaves the pool as it was
@@ -45,7 +45,7 @@ module _ (r : Range) where
   consecutive-more a b (t ∷ rs) c e = (c .0, consecutive-more (a + t .words) b rs (c .1) e)
 
 -- sound records, and what went out are the words from 0 to what all have drawn
-pub record Good (W : ℕ) (p : Pool) : Type 0 where
+pub record SoundPool (W : ℕ) (p : Pool) : Type 0 where
   pub sound : Sound W (p .signers)
   pub row : Consecutive 0 (p .handed) (drawnByAll (p .signers))
 
@@ -53,21 +53,21 @@ module _ (W : ℕ) (p : Pool) where
   drawn-more : (i q : ℕ) → i < length (p .signers) → drawnByAll (grant (p .signers) i q .signers) ≡ drawnByAll (p .signers) + q
   drawn-more i q h = omega (arith, sum-set (p .signers) i (drawing (signerAt (p .signers) i) q) h (λ s. s .drawn))
 
-  pub good-after : (c : Call) → Good W p → Good W (after W p c)
-  good-after refill g = subst (Good W) (sym (after-refill W p (g .sound))) (record {
+  pub sound-after : (c : Call) → SoundPool W p → SoundPool W (after W p c)
+  sound-after refill g = subst (SoundPool W) (sym (after-refill W p (g .sound))) (record {
     sound = kept-refill W (p .signers) (g .sound);
     row = sym (none-drawn (p .signers));
   })
-  good-after (draw i q) g = by (drawOf W (p .signers) i q) refl
+  sound-after (draw i q) g = by (drawOf W (p .signers) i q) refl
     where
       next : Range
       next = record { start = drawnByAll (p .signers); words = q }
 
-      by : (o : Outcome Grant) → drawOf W (p .signers) i q ≡ o → Good W (after W p (draw i q))
-      by (refused k) e = subst (Good W) (sym (after-refused W p i q k e)) g
+      by : (o : Outcome Grant) → drawOf W (p .signers) i q ≡ o → SoundPool W (after W p (draw i q))
+      by (refused k) e = subst (SoundPool W) (sym (after-refused W p i q k e)) g
       by (gives t) e =
           let d = draw-given W (p .signers) i q t e in
-          subst (Good W) (sym (after-granted W p i q t e)) (record {
+          subst (SoundPool W) (sym (after-granted W p i q t e)) (record {
             sound = kept-draw W (p .signers) i q (d .0) (d .1);
             row = subst (Consecutive 0 (p .handed ++ (next ∷ []))) (sym (drawn-more i q (d .1 .opened)))
                 (consecutive-more next 0 (drawnByAll (p .signers)) (p .handed) (g .row) refl);

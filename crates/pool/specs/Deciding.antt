@@ -16,10 +16,10 @@ use Rattle.pool.specs.declared.deciding.Decided.{Decided}
 
 -- whether they open a pool, and whether an opening and draws can have left them
 abbrev pub opensBy : ℕ → ℕ → Sums → Bool
-opensBy W n a = not ((sizesUnfit W n || a .unfair) || ltb W (a .reserved))
+opensBy W n a = not ((sizesUnfit W n || a .above) || ltb W (a .reserved))
 
 abbrev pub standsBy : ℕ → ℕ → Sums → Bool
-standsBy W n a = not (((sizesUnfit W n || a .unfair) || a .over) || ltb W (a .claimed))
+standsBy W n a = not (((sizesUnfit W n || a .above) || a .over) || ltb W (a .claimed))
 
 abbrev pub openedBy : Bool → Outcome (Unit {0})
 openedBy fit = refuse 3 (not fit)
@@ -30,11 +30,11 @@ clearedIf true xs = cleared xs
 clearedIf false xs = xs
 
 -- where the words of a draw that is granted start, and what its signer has drawn then
-pub record Granted : Type 0 where
+pub record Verdict : Type 0 where
   pub start : ℕ
   pub drawn : ℕ
 
-abbrev pub drawBy : ℕ → ℕ → Sums → ℕ → ℕ → Outcome Granted
+abbrev pub drawBy : ℕ → ℕ → Sums → ℕ → ℕ → Outcome Verdict
 drawBy W n a i q = do
   refuse 3 (not (standsBy W n a))
   refuse 17 (leb n i)
@@ -46,7 +46,7 @@ drawBy W n a i q = do
 abbrev pub Refuses : Decided → ℕ → Type 0
 Refuses d k = (drawnOf (d .answer) ≡ refused k) × (d .granted ≡ false)
 
-abbrev pub Decides : Decided → Outcome Granted → Type 0
+abbrev pub Decides : Decided → Outcome Verdict → Type 0
 Decides d (refused k) = Refuses d k
 Decides d (gives g) = (drawnOf (d .answer) ≡ gives (g .start)) × (d .granted ≡ true) × (d .drawn ≡ g .drawn)
 

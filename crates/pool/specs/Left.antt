@@ -16,12 +16,12 @@ use Rattle.laws.specs.Tests.{lt-or-ge}
 use Rattle.laws.specs.Sums.{sum-mono}
 use Rattle.laws.specs.Lists.{from, upto, length-upto, getD-upto, upto-from}
 use Rattle.laws.specs.Outcome.{gives}
-use Rattle.pool.specs.Pool.{noSigner, signerAt, claim, sumOf, clear, cleared, drawing, openOf, drawOf}
+use Rattle.pool.specs.Pool.{noSigner, signerAt, claim, sumOf, clear, cleared, drawing, openOf, drawOf, grant}
 use Rattle.pool.specs.Scan.{either-signer}
 use Rattle.pool.specs.Sequences.{Call, draw, Pool, after, afterAll, drawsOf}
-use Rattle.pool.specs.Sound.{Sized, Sound, drawn-claimed}
+use Rattle.pool.specs.Sound.{Sized, Sound, opens-iff, sound-opens, drawn-claimed}
 use Rattle.pool.specs.Amounts.{sum-set, claims-are, lack-split, cleared-at, length-cleared}
-use Rattle.pool.specs.Kept.{Granted, grant, draw-gives, open-gives}
+use Rattle.pool.specs.Kept.{Granted, draw-gives}
 use Rattle.pool.specs.Calls.{after-granted}
 use Rattle.pool.specs.declared.signers.Signer.{Signer}
 
@@ -88,8 +88,8 @@ module _ (W : ℕ) (xs : List Signer) (s : Sound W xs) where
   sound-mixed : (k : ℕ) → Sound W (mixed k)
   sound-mixed k = record {
     sized = subst (λ (n : ℕ). Sized W n) (sym (long k)) (s .sized);
-    fair = mixed-all (λ t. t .reserve ≤ t .cap) (omega arith) (s .fair) (s .fair) k;
-    kept = mixed-all (λ t. t .drawn ≤ t .cap) (omega arith) (s .kept) (λ j. omega arith) k;
+    reserves = mixed-all (λ t. t .reserve ≤ t .cap) (omega arith) (s .reserves) (s .reserves) k;
+    draws = mixed-all (λ t. t .drawn ≤ t .cap) (omega arith) (s .draws) (λ j. omega arith) k;
     claims = omega (arith, s .claims, fewer);
   }
     where
@@ -100,7 +100,7 @@ module _ (W : ℕ) (xs : List Signer) (s : Sound W xs) where
   grant-next : (k : ℕ) → k < length xs → Granted W (mixed k) k (signerAt xs k .drawn)
   grant-next k h = record {
     opened = l;
-    capped = rw (clear-at k k h (omega arith)) (omega (arith, s .kept k));
+    capped = rw (clear-at k k h (omega arith)) (omega (arith, s .draws k));
     covered = omega (
       arith,
       sound-mixed (k + 1) .claims,
@@ -139,10 +139,6 @@ module _ (W : ℕ) (xs : List Signer) (s : Sound W xs) where
   pub left-again :
       (openOf W xs ≡ gives (cleared xs)) × (afterAll W (record { signers = cleared xs; handed = [] }) (drawsOf xs) .signers ≡ xs)
   left-again = (
-    open-gives W xs (s .sized) (s .fair) (omega (
-      arith,
-      s .claims,
-      sum-mono (length xs) (λ j. signerAt xs j .reserve) (λ j. claim (signerAt xs j)) (λ j l. omega arith),
-    )),
+    opens-iff W xs .1 (sound-opens W xs s),
     rw (upto-from (length xs) drawFor) (after-rest (length xs) 0 (omega arith) (record { signers = cleared xs; handed = [] }) mixed-first),
   )

@@ -48,11 +48,11 @@ abbrev pub some-of : (Signer → Bool) → List Signer → Bool
 some-of t xs = any (length xs) (λ j. t (signerAt xs j))
 
 -- a reserve above its cap; more drawn than the cap
-abbrev pub unfair : Signer → Bool
-unfair s = ltb (s .cap) (s .reserve)
+abbrev pub reserve-above : Signer → Bool
+reserve-above s = ltb (s .cap) (s .reserve)
 
-abbrev pub over : Signer → Bool
-over s = ltb (s .cap) (s .drawn)
+abbrev pub drawn-above : Signer → Bool
+drawn-above s = ltb (s .cap) (s .drawn)
 
 -- what all have drawn: where the next words start; and the words that are left
 abbrev pub drawnByAll : List Signer → ℕ
@@ -86,16 +86,16 @@ drawing s q = record { reserve = s .reserve; cap = s .cap; drawn = s .drawn + q 
 unfoldable pub openOf : ℕ → List Signer → Outcome (List Signer)
 openOf W xs = do
   refuse 3 (sizesUnfit W (length xs))
-  refuse 3 (some-of unfair xs)
+  refuse 3 (some-of reserve-above xs)
   refuse 3 (ltb W (sumOf (λ s. s .reserve) xs))
   gives (cleared xs)
 
--- records that no opening and draws on W words can leave are 3 (specs/Sequences.antt has that these are the ones)
+-- records that no opening and draws on W words can leave are 3; that these are the ones is `left-iff` (specs/Theorems.antt)
 unfoldable pub recordsOf : ℕ → List Signer → Outcome (Unit {0})
 recordsOf W xs = do
   refuse 3 (sizesUnfit W (length xs))
-  refuse 3 (some-of unfair xs)
-  refuse 3 (some-of over xs)
+  refuse 3 (some-of reserve-above xs)
+  refuse 3 (some-of drawn-above xs)
   refuse 3 (ltb W (sumOf claim xs))
   gives tt
 
@@ -103,6 +103,9 @@ recordsOf W xs = do
 pub record Grant : Type 0 where
   pub start : ℕ
   pub signers : List Signer
+
+abbrev pub grant : List Signer → ℕ → ℕ → Grant
+grant xs i q = record { start = drawnByAll xs; signers = set xs i (drawing (signerAt xs i) q) }
 
 -- a draw of q words by signer i
 unfoldable pub drawOf : ℕ → List Signer → ℕ → ℕ → Outcome Grant
@@ -112,7 +115,7 @@ drawOf W xs i q = do
   refuse 18 (ltb (signerAt xs i .cap) (signerAt xs i .drawn + q))
   refuse 19 (ltb (left W xs) q)
   refuse 19 (ltb (left W xs - q) (othersLack xs i))
-  gives (record { start = drawnByAll xs; signers = set xs i (drawing (signerAt xs i) q) })
+  gives (grant xs i q)
 
 -- a refill: W and the signers stay, and nobody has drawn
 unfoldable pub refillOf : ℕ → List Signer → Outcome (List Signer)

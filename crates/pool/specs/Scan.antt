@@ -4,7 +4,7 @@ use mathlib.Core.Bool.{Bool, true, false, _||_}
 use mathlib.Core.List.{List}
 use lib.Dec.{eqb, ltb}
 use Rattle.laws.specs.Sums.{any, sumTo}
-use Rattle.pool.specs.Pool.{noSigner, signerAt, claim, unfair, over, lackUnless}
+use Rattle.pool.specs.Pool.{noSigner, signerAt, claim, reserve-above, drawn-above, lackUnless}
 use Rattle.pool.specs.declared.signers.Signer.{Signer}
 use Rattle.pool.specs.declared.signers.Sums.{Sums}
 
@@ -21,8 +21,8 @@ sumsOf xs asks k = record {
   drawn = sumTo k (λ j. signerAt xs j .drawn);
   claimed = sumTo k (λ j. claim (signerAt xs j));
   lacking = sumTo k (λ j. lackUnless (eqb j asks) (signerAt xs j));
-  unfair = any k (λ j. unfair (signerAt xs j));
-  over = any k (λ j. over (signerAt xs j));
+  above = any k (λ j. reserve-above (signerAt xs j));
+  over = any k (λ j. drawn-above (signerAt xs j));
 }
 
 -- the sums with one more signer, the one in place i
@@ -33,8 +33,8 @@ added a s i asks = record {
   drawn = a .drawn + s .drawn;
   claimed = a .claimed + claim s;
   lacking = a .lacking + lackUnless (eqb i asks) s;
-  unfair = a .unfair || unfair s;
-  over = a .over || over s;
+  above = a .above || reserve-above s;
+  over = a .over || drawn-above s;
 }
 
 -- sums of k signers, of 32 bits each, are small

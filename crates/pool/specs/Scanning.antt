@@ -5,30 +5,19 @@ use mathlib.Core.Bool.{Bool, true, false, _||_}
 use mathlib.Core.List.{List}
 use mathlib.Core.Logic.{⊎-elim}
 use native.Mathlib.Nat.{eq-or-lt-of-le, lt-irrefl, not-suc-le-zero}
-use native.Mathlib.Numerals.{add-one}
 use native.Mathlib.Omega.{arith}
 use borrow.Author.Tests.{lt-ltb, le-ltb, eqb-true, eqb-false, ltb-true, ltb-false}
 use lib.Dec.{eqb, ltb}
-use lib.ListN.{length, set, length-set, length-map, List·getD-map}
+use lib.ListN.{length, set, length-set}
 use lib.Seq.{getD-set-same, getD-set-other, ext-getD}
-use Rattle.laws.specs.Sums.{any, sumTo, sum-more}
-use Rattle.pool.specs.Pool.{most-signers, noSigner, signerAt, lack, lackUnless, claim, unfair, over, clear, cleared}
+use Rattle.laws.specs.Sums.{any, sumTo, any-next, sum-more}
+use Rattle.pool.specs.Pool.{most-signers, noSigner, signerAt, lack, lackUnless, claim, reserve-above, drawn-above, clear, cleared}
+use Rattle.pool.specs.Amounts.{cleared-at, length-cleared}
 use Rattle.pool.specs.Scan.{Small, added, either-signer, sumsOf}
 use Rattle.pool.specs.declared.signers.Signer.{Signer}
 use Rattle.pool.specs.declared.signers.Sums.{Sums}
 
 -- ---- one more signer
-or-swap : (a b : Bool) → (a || b) ≡ (b || a)
-or-swap true true = refl
-or-swap true false = refl
-or-swap false true = refl
-or-swap false false = refl
-
--- one more test, in the words of a loop that counts up
-any-next : (n : ℕ) (t : ℕ → Bool) → any (n + 1) t ≡ (any n t || t n)
-unfolding any
-any-next n t = rw (add-one n) (or-swap (t n) (any n t))
-
 -- the one that asks is the one in place i, or was met before, or is not met yet
 own-next : (xs : List Signer) (asks i : ℕ) →
     either-signer (ltb asks (i + 1)) (signerAt xs asks) noSigner ≡
@@ -49,8 +38,8 @@ sums-next xs asks i = λ j. record {
   drawn = sum-more i (λ k. signerAt xs k .drawn) j;
   claimed = sum-more i (λ k. claim (signerAt xs k)) j;
   lacking = sum-more i (λ k. lackUnless (eqb k asks) (signerAt xs k)) j;
-  unfair = any-next i (λ k. unfair (signerAt xs k)) j;
-  over = any-next i (λ k. over (signerAt xs k)) j;
+  above = any-next i (λ k. reserve-above (signerAt xs k)) j;
+  over = any-next i (λ k. drawn-above (signerAt xs k)) j;
 }
 
 -- what a signer lacks is at most its reserve; and what the code adds up for its claim
@@ -69,8 +58,8 @@ pub added-is : (a : Sums) (s : Signer) (i asks : ℕ) (own : Signer) (c l : ℕ)
       drawn = a .drawn + s .drawn;
       claimed = a .claimed + (s .drawn + c);
       lacking = a .lacking + l;
-      unfair = a .unfair || unfair s;
-      over = a .over || over s;
+      above = a .above || reserve-above s;
+      over = a .over || drawn-above s;
     } ≡ added a s i asks
 added-is a s i asks own c l p q r = rw (p, claim-is s c q, r)
 
@@ -83,7 +72,7 @@ abbrev pub Going : List Signer → ℕ → ℕ → ℕ → Sums → Type 0
 Going xs asks n i a = (i ≤ n) × (a ≡ sumsOf xs asks i) × Small i a
 
 abbrev pub noSums : Sums
-noSums = record { own = noSigner; reserved = 0; drawn = 0; claimed = 0; lacking = 0; unfair = false; over = false }
+noSums = record { own = noSigner; reserved = 0; drawn = 0; claimed = 0; lacking = 0; above = false; over = false }
 
 none-yet : (xs : List Signer) (asks : ℕ) → noSums ≡ sumsOf xs asks 0
 unfolding sumTo any
@@ -130,8 +119,8 @@ clearing-turn xs i zs l (h, n, before, after) = (omega arith, length-set zs i _ 
 
 pub clearing-done : (xs : List Signer) (i : ℕ) (zs : List Signer) → i ≡ length xs → Clearing xs i zs → zs ≡ cleared xs
 clearing-done xs i zs p (h, n, before, after) =
-    ext-getD noSigner zs (cleared xs) (n ∙ sym (length-map xs clear))
-    (λ j m. before j (omega arith) ∙ sym (List·getD-map clear xs j noSigner))
+    ext-getD noSigner zs (cleared xs) (n ∙ sym (length-cleared xs))
+    (λ j m. before j (omega arith) ∙ sym (cleared-at xs j))
 
 -- ---- numbers of both loops, over a list of n records of 12 bytes
 pub place-fits : (i n : ℕ) → i < n → n * 12 < 2 ^ 63 → i * 12 < 2 ^ 64

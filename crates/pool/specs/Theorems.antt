@@ -15,28 +15,27 @@ use Rattle.laws.specs.Lists.{Each}
 use Rattle.laws.specs.Lay.{lay, lay-nothing, lay-whole}
 use Rattle.laws.specs.Outcome.{Outcome, refused, gives, refuse, _>>_, laid, no-result, refused-inj}
 use Rattle.pool.specs.Pool.{noSigner, signerAt, drawnByAll, left, othersLack, clear, cleared, drawing}
-use Rattle.pool.specs.Pool.{openOf, recordsOf, Grant, drawOf, refillOf}
+use Rattle.pool.specs.Pool.{openOf, recordsOf, Grant, grant, drawOf, refillOf}
 use Rattle.pool.specs.Sequences.{Call, draw, refill, Range, Pool, after, afterAll, Reached, Left, drawsOf, Consecutive, one-where}
 use Rattle.pool.specs.Sequences.{times}
-use Rattle.pool.specs.Sound.{Sound, sound-iff, sound-or, drawn-claimed}
+use Rattle.pool.specs.Sound.{Sound, Opens, sound-iff, sound-or, opens-iff, opens-or, drawn-claimed}
 use Rattle.pool.specs.Amounts.{claims-are, lack-split, cleared-at, length-cleared, none-drawn}
-use Rattle.pool.specs.Kept.{Granted, grant, draw-gives, draw-given, open-given}
-use Rattle.pool.specs.Calls.{Good, good-after, kept-all, after-refused, after-granted, after-refill}
+use Rattle.pool.specs.Kept.{Granted, draw-gives, draw-given, open-given}
+use Rattle.pool.specs.Calls.{SoundPool, sound-after, kept-all, after-refused, after-granted, after-refill}
 use Rattle.pool.specs.Left.{left-again}
 use Rattle.pool.specs.declared.signers.Signer.{Signer}
 
--- ---- a refused call leaves the records as they were
-pub open-refused : (W k : ℕ) (xs : List Signer) → openOf W xs ≡ refused k → lay (laid (λ ys. ys) (openOf W xs)) xs ≡ xs
-open-refused W k xs e = rw e (sym (lay-nothing xs))
+-- ---- a refused call leaves the records as they were: the contracts of the three operations have this form
+pub refused-leaves : {A : Type 0} (f : A → List Signer) (o : Outcome A) (k : ℕ) (xs : List Signer) → o ≡ refused k → lay (laid f o) xs ≡ xs
+refused-leaves f o k xs e = rw e (sym (lay-nothing xs))
 
-pub draw-refused : (W k : ℕ) (xs : List Signer) (i q : ℕ) → drawOf W xs i q ≡ refused k →
-    lay (laid (λ g. g .signers) (drawOf W xs i q)) xs ≡ xs
-draw-refused W k xs i q e = rw e (sym (lay-nothing xs))
+-- ---- an opening is 3 exactly for a list that does not open, and otherwise leaves the records in which nobody has drawn
+pub open-three-iff : (W : ℕ) (xs : List Signer) → (openOf W xs ≡ refused 3) ↔ (Opens W xs → ⊥)
+open-three-iff W xs = (
+  (λ e o. no-result 3 (cleared xs) (sym e ∙ opens-iff W xs .1 o)),
+  (λ n. ⊎-elim (λ e. absurd (n (opens-iff W xs .0 e))) (λ e. e) (opens-or W xs)),
+)
 
-pub refill-refused : (W k : ℕ) (xs : List Signer) → refillOf W xs ≡ refused k → lay (laid (λ ys. ys) (refillOf W xs)) xs ≡ xs
-refill-refused W k xs e = rw e (sym (lay-nothing xs))
-
--- ---- an opening that is not refused leaves the records in which nobody has drawn
 pub open-leaves : (W : ℕ) (xs ys : List Signer) → openOf W xs ≡ gives ys →
     (lay (laid (λ ys. ys) (openOf W xs)) xs ≡ cleared xs) × (ys ≡ cleared xs) × ((j : ℕ) → signerAt (cleared xs) j .drawn ≡ 0)
 open-leaves W xs ys e =
@@ -60,10 +59,11 @@ no-three false false false true x e = absurd (omega (arith, refused-inj e))
 no-three false false false false x e = no-result 3 x (sym e)
 
 -- ---- where an opening and calls have come to
-good : {W : ℕ} {p : Pool} → Reached W p → Good W p
-good {W} {p} r =
+sound-pool : {W : ℕ} {p : Pool} → Reached W p → SoundPool W p
+sound-pool {W} {p} r =
     let o = open-given W (r .before) (r .opened) (r .opens) in
-    subst (Good W) (sym (r .is)) (kept-all W (Good W) (good-after W) (r .calls) (record { signers = r .opened; handed = [] }) (record {
+    let first : Pool = record { signers = r .opened; handed = [] } in
+    subst (SoundPool W) (sym (r .is)) (kept-all W (SoundPool W) (sound-after W) (r .calls) first (record {
       sound = o .1;
       row = sym (ap drawnByAll (o .0) ∙ none-drawn (r .before));
     }))
@@ -71,31 +71,45 @@ good {W} {p} r =
 module _ {W : ℕ} {p : Pool} (r : Reached W p) where
   -- what goes out between refills begins at 0, follows in order without a gap, and ends inside W
   pub in-order : Consecutive 0 (p .handed) (drawnByAll (p .signers)) × (drawnByAll (p .signers) ≤ W)
-  in-order = (good r .row, omega (arith, drawn-claimed (p .signers), good r .sound .claims))
+  in-order = (sound-pool r .row, omega (arith, drawn-claimed (p .signers), sound-pool r .sound .claims))
 
   -- a refill leaves the records in which nobody has drawn, and the next words start at 0
   pub refill-leaves : (after W p refill ≡ record { signers = cleared (p .signers); handed = [] }) ×
       ((j : ℕ) → signerAt (cleared (p .signers)) j .drawn ≡ 0) × (drawnByAll (cleared (p .signers)) ≡ 0)
   refill-leaves = (
-    after-refill W p (good r .sound),
+    after-refill W p (sound-pool r .sound),
     (λ j. ap (λ (s : Signer). s .drawn) (cleared-at (p .signers) j)),
     none-drawn (p .signers),
   )
 
   -- nobody exceeds a cap
   pub caps-kept : (j : ℕ) → signerAt (p .signers) j .drawn ≤ signerAt (p .signers) j .cap
-  caps-kept = good r .sound .kept
+  caps-kept = sound-pool r .sound .draws
 
   -- a draw that keeps a signer within its reserve is granted
   pub reserve-granted : (i q : ℕ) → i < length (p .signers) → signerAt (p .signers) i .drawn + q ≤ signerAt (p .signers) i .reserve →
       drawOf W (p .signers) i q ≡ gives (grant (p .signers) i q)
-  reserve-granted i q h l = draw-gives W (p .signers) i q (good r .sound) (record {
+  reserve-granted i q h l = draw-gives W (p .signers) i q (sound-pool r .sound) (record {
     opened = h;
-    capped = omega (arith, l, good r .sound .fair i);
+    capped = omega (arith, l, sound-pool r .sound .reserves i);
     covered = omega (
       arith,
       l,
-      good r .sound .claims,
+      sound-pool r .sound .claims,
+      drawn-claimed (p .signers),
+      claims-are (p .signers),
+      lack-split (p .signers) i h,
+    );
+  })
+
+  -- a draw of 0 words is granted, and answers where the next words start
+  pub nothing-granted : (i : ℕ) → i < length (p .signers) → drawOf W (p .signers) i 0 ≡ gives (grant (p .signers) i 0)
+  nothing-granted i h = draw-gives W (p .signers) i 0 (sound-pool r .sound) (record {
+    opened = h;
+    capped = omega (arith, sound-pool r .sound .draws i);
+    covered = omega (
+      arith,
+      sound-pool r .sound .claims,
       drawn-claimed (p .signers),
       claims-are (p .signers),
       lack-split (p .signers) i h,
@@ -106,7 +120,7 @@ module _ {W : ℕ} {p : Pool} (r : Reached W p) where
   pub granted-iff : (i q : ℕ) → ((g : Grant) × (drawOf W (p .signers) i q ≡ gives g)) ↔ Granted W (p .signers) i q
   granted-iff i q = (
     (λ a. draw-given W (p .signers) i q (a .0) (a .1) .1),
-    (λ a. (grant (p .signers) i q, draw-gives W (p .signers) i q (good r .sound) a)),
+    (λ a. (grant (p .signers) i q, draw-gives W (p .signers) i q (sound-pool r .sound) a)),
   )
 
 -- ---- no word goes out twice
@@ -151,7 +165,8 @@ terms-after W p (draw i q) = by (drawOf W (p .signers) i q) refl
         map-set-same clear (p .signers) i (drawing (signerAt (p .signers) i) q) noSigner refl
 terms-after W p refill = ⊎-elim
     (λ (s : Sound W (p .signers)). ap (λ (p : Pool). cleared (p .signers)) (after-refill W p s) ∙ cleared-twice (p .signers))
-    (λ (e : recordsOf W (p .signers) ≡ refused 3). ap cleared (refill-refused W 3 (p .signers) (refill-three W (p .signers) e)))
+    (λ (e : recordsOf W (p .signers) ≡ refused 3). ap cleared
+    (refused-leaves (λ ys. ys) (refillOf W (p .signers)) 3 (p .signers) (refill-three W (p .signers) e)))
     (sound-or W (p .signers))
 
 module _ {W : ℕ} {p : Pool} (r : Reached W p) where
@@ -175,7 +190,7 @@ module _ {W : ℕ} {p : Pool} (r : Reached W p) where
 module _ (W : ℕ) (xs : List Signer) where
   pub left-iff : Left W xs ↔ (recordsOf W xs ≡ gives tt)
   left-iff = (
-    (λ l. sound-iff W xs .1 (subst (Sound W) (l .are) (good (l .reached) .sound))),
+    (λ l. sound-iff W xs .1 (subst (Sound W) (l .are) (sound-pool (l .reached) .sound))),
     (λ e. let a = left-again W xs (sound-iff W xs .0 e) in record {
       pool = afterAll W (record { signers = cleared xs; handed = [] }) (drawsOf xs);
       reached = record { before = xs; opened = cleared xs; opens = a .0; calls = drawsOf xs; is = refl };

@@ -8,16 +8,17 @@ use native.Mathlib.Nat.{le-of-eq}
 use native.Mathlib.Omega.{arith}
 use borrow.Author.Tests.{le-leb, lt-leb, lt-ltb, le-ltb, leb-false}
 use lib.Dec.{leb, ltb}
-use lib.ListN.{length, set, length-map, length-set}
+use lib.ListN.{length, set, length-set}
 use Rattle.laws.specs.Tests.{never, lt-or-ge}
 use Rattle.laws.specs.Lay.{lay, lay-nothing, lay-whole}
 use Rattle.laws.specs.Outcome.{Outcome, refused, gives, refuse, _>>_, laid, mapped, passed}
 use Rattle.pool.specs.Pool.{most-signers, sizesUnfit, signerAt, claim, sumOf, some-of}
-use Rattle.pool.specs.Pool.{unfair, over, drawnByAll, othersLack, clear, cleared, openOf, recordsOf, Grant, drawOf, refillOf}
+use Rattle.pool.specs.Pool.{reserve-above, drawn-above, drawnByAll, othersLack, cleared, openOf, recordsOf, Grant, drawOf, refillOf}
 use Rattle.pool.specs.Pool.{openedOf, drawnOf}
-use Rattle.pool.specs.Sound.{Sound, sized-iff, sound-iff, drawn-claimed}
+use Rattle.pool.specs.Sound.{Sound, sized-iff, sound-iff, records-one, opens-one, drawn-claimed}
+use Rattle.pool.specs.Amounts.{length-cleared}
 use Rattle.pool.specs.Scan.{sumsOf}
-use Rattle.pool.specs.Deciding.{opensBy, standsBy, openedBy, clearedIf, Granted, drawBy, Decides}
+use Rattle.pool.specs.Deciding.{opensBy, standsBy, openedBy, clearedIf, Verdict, drawBy, Decides}
 use Rattle.pool.specs.declared.signers.Signer.{Signer}
 use Rattle.pool.specs.declared.deciding.Opened.{Opened}
 use Rattle.pool.specs.declared.deciding.Decided.{Decided}
@@ -26,20 +27,12 @@ by-bool : {A : Type 0} {a b : A} (t : Bool) → (t ≡ true → a ≡ b) → (t 
 by-bool true f g = f refl
 by-bool false f g = g refl
 
--- checks with one refusal are one
-checks-two : {A : Type 0} (x : A) (t u : Bool) → (refuse 3 t >> (refuse 3 u >> gives x)) ≡ (refuse 3 (not (not (t || u))) >> gives x)
-checks-two x true u = refl
-checks-two x false true = refl
-checks-two x false false = refl
-
-checks-three : (t u v : Bool) → (refuse 3 t >> (refuse 3 u >> (refuse 3 v >> gives tt))) ≡ refuse 3 (not (not ((t || u) || v)))
-checks-three true u v = refl
-checks-three false true v = refl
-checks-three false false true = refl
-checks-three false false false = refl
+not-not : (t : Bool) → not (not t) ≡ t
+not-not true = refl
+not-not false = refl
 
 pub length-clearedIf : (xs : List Signer) (fit : Bool) → length (clearedIf fit xs) ≡ length xs
-length-clearedIf xs true = length-map xs clear
+length-clearedIf xs true = length-cleared xs
 length-clearedIf xs false = refl
 
 -- too few words, in two checks and in one
@@ -67,23 +60,24 @@ module _ (W : ℕ) (xs : List Signer) where
   by-sizes f g = by-bool (sizesUnfit W (length xs)) f g
 
   opens-is : (asks : ℕ) → openOf W xs ≡ (refuse 3 (not (opensBy W (length xs) (sumsOf xs asks met))) >> gives (cleared xs))
-  unfolding openOf
-  opens-is asks = by-sizes (λ e. rw e)
-      (λ e. rw (e, all-met e) (checks-two (cleared xs) (some-of unfair xs) (ltb W (sumOf (λ s. s .reserve) xs))))
+  opens-is asks = opens-one W xs ∙ sym (ap (λ (t : Bool). refuse 3 t >> gives (cleared xs)) test)
+    where
+      test : not (opensBy W (length xs) (sumsOf xs asks met)) ≡
+          ((sizesUnfit W (length xs) || some-of reserve-above xs) || ltb W (sumOf (λ s. s .reserve) xs))
+      test = by-sizes (λ e. rw e) (λ e. rw (all-met e) (not-not _))
 
   stands-is : (asks : ℕ) → recordsOf W xs ≡ refuse 3 (not (standsBy W (length xs) (sumsOf xs asks met)))
-  unfolding recordsOf
-  stands-is asks = by-sizes (λ e. rw e)
-      (λ e. rw (e, all-met e) (checks-three (some-of unfair xs) (some-of over xs) (ltb W (sumOf claim xs))))
+  stands-is asks = records-one W xs ∙ sym (ap (refuse 3) test)
+    where
+      test : not (standsBy W (length xs) (sumsOf xs asks met)) ≡
+          (((sizesUnfit W (length xs) || some-of reserve-above xs) || some-of drawn-above xs) || ltb W (sumOf claim xs))
+      test = by-sizes (λ e. rw e) (λ e. rw (all-met e) (not-not _))
 
   sound : (asks : ℕ) → standsBy W (length xs) (sumsOf xs asks met) ≡ true → Sound W xs
   sound asks e = sound-iff W xs .0 (stands-is asks ∙ ap (λ (t : Bool). refuse 3 (not t)) e)
 
-  met-all : Sound W xs → met ≡ length xs
-  met-all s = omega (arith, s .sized .few)
-
   -- where a draw is granted: what it answers and leaves, by what its signer has drawn then
-  abbrev granted : ℕ → Granted → Grant
+  abbrev granted : ℕ → Verdict → Grant
   granted i g = record {
     start = g .start;
     signers = set xs i (record { reserve = signerAt xs i .reserve; cap = signerAt xs i .cap; drawn = g .drawn });
@@ -93,7 +87,7 @@ module _ (W : ℕ) (xs : List Signer) where
   unfolding drawOf
   draw-is i q = by-bool (standsBy W (length xs) (sumsOf xs i met))
       (λ e. let s = sound i e in rw (stands-is i, e) (⊎-elim
-      (λ (l : i < length xs). rw (met-all s, lt-ltb i (length xs) l, lt-leb (length xs) i l)
+      (λ (l : i < length xs). rw (all-met (sized-iff W (length xs) .1 (s .sized)), lt-ltb i (length xs) l, lt-leb (length xs) i l)
       (by-bool (ltb (signerAt xs i .cap) (signerAt xs i .drawn + q)) (λ c. rw c) (λ c. rw c
       (words-left W (drawnByAll xs) q (othersLack xs i) (granted i)
       (record { start = drawnByAll xs; drawn = signerAt xs i .drawn + q }) (omega (arith, drawn-claimed xs, s .claims))))))
@@ -111,7 +105,7 @@ module _ (W : ℕ) (xs : List Signer) where
 
   ends : (o : Outcome (List Signer)) (fit : Bool) (r : Opened) → o ≡ (refuse 3 (not fit) >> gives (cleared xs)) →
       openedOf r ≡ openedBy fit → Answered o fit r
-  ends o true r e p = rw e (p, sym (lay-whole (cleared xs) xs (omega (arith, length-map xs clear))))
+  ends o true r e p = rw e (p, sym (lay-whole (cleared xs) xs (le-of-eq (sym (length-cleared xs)))))
   ends o false r e p = rw e (p, lay-nothing xs)
 
   pub open-ends : (asks : ℕ) (fit : Bool) (r : Opened) → fit ≡ opensBy W (length xs) (sumsOf xs asks met) → openedOf r ≡ openedBy fit →
@@ -124,7 +118,7 @@ module _ (W : ℕ) (xs : List Signer) where
 
   -- a draw, by its decision: what it answers, and the records zs that it leaves
   module _ (i q : ℕ) (d : Decided) where
-    abbrev pub decision : Outcome Granted
+    abbrev pub decision : Outcome Verdict
     decision = drawBy W (length xs) (sumsOf xs i met) i q
 
     abbrev pub Ended : Outcome Grant → List Signer → Type 0
@@ -134,22 +128,22 @@ module _ (W : ℕ) (xs : List Signer) where
     abbrev pub stored : Signer
     stored = record { reserve = signerAt xs i .reserve; cap = signerAt xs i .cap; drawn = d .drawn }
 
-    pub draw-refused : Decides d decision → d .granted ≡ false → Ended (drawOf W xs i q) xs
-    draw-refused h e = rw (draw-is i q) (by decision h)
+    pub draw-ends-refused : Decides d decision → d .granted ≡ false → Ended (drawOf W xs i q) xs
+    draw-ends-refused h e = rw (draw-is i q) (by decision h)
       where
-        by : (o : Outcome Granted) → Decides d o → Ended (mapped (granted i) o) xs
+        by : (o : Outcome Verdict) → Decides d o → Ended (mapped (granted i) o) xs
         by (refused k) h = (h .0, lay-nothing xs)
         by (gives g) h = never (sym e ∙ h .1)
 
-    opened : (g : Granted) → decision ≡ gives g → i < length xs
+    opened : (g : Verdict) → decision ≡ gives g → i < length xs
     opened g e =
         let a = passed 3 (not (standsBy W (length xs) (sumsOf xs i met))) _ g e in
         leb-false (length xs) i (passed 17 (leb (length xs) i) _ g (a .1) .0)
 
-    pub draw-granted : Decides d decision → d .granted ≡ true → (i < length xs) × Ended (drawOf W xs i q) (set xs i stored)
-    draw-granted h e = rw (draw-is i q) (by decision h refl)
+    pub draw-ends-granted : Decides d decision → d .granted ≡ true → (i < length xs) × Ended (drawOf W xs i q) (set xs i stored)
+    draw-ends-granted h e = rw (draw-is i q) (by decision h refl)
       where
-        by : (o : Outcome Granted) → Decides d o → decision ≡ o → (i < length xs) × Ended (mapped (granted i) o) (set xs i stored)
+        by : (o : Outcome Verdict) → Decides d o → decision ≡ o → (i < length xs) × Ended (mapped (granted i) o) (set xs i stored)
         by (refused k) h p = never (sym (h .1) ∙ e)
         by (gives g) h p = (
           opened g p,

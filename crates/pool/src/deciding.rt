@@ -45,7 +45,7 @@ fn sizes_unfit(words: usize, n: usize) -> bool
 pub(crate) fn opens(words: usize, n: usize, a: Sums) -> bool
     ensures { λ r. ⌜ r ≡ opensBy words n a ⌝ }
 {
-    let bad = sizes_unfit(words, n) | a.unfair | (words < a.reserved);
+    let bad = sizes_unfit(words, n) | a.above | (words < a.reserved);
     !bad
 }
 
@@ -53,7 +53,7 @@ pub(crate) fn opens(words: usize, n: usize, a: Sums) -> bool
 pub(crate) fn stands(words: usize, n: usize, a: Sums) -> bool
     ensures { λ r. ⌜ r ≡ standsBy words n a ⌝ }
 {
-    let bad = sizes_unfit(words, n) | a.unfair | a.over | (words < a.claimed);
+    let bad = sizes_unfit(words, n) | a.above | a.over | (words < a.claimed);
     !bad
 }
 

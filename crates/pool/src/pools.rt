@@ -15,7 +15,7 @@ use crate::signers::clear;
 use crate::signers::scan;
 
 // Clears what the signers have drawn, where they fit, and answers whether they do.
-fn renew(signers: &mut [Signer], fit: bool) -> Opened
+pub(crate) fn renew(signers: &mut [Signer], fit: bool) -> Opened
     ensures { λ r. ⌜ (openedOf r ≡ openedBy fit) × (now (signers .exit) ≡ clearedIf fit (now (signers .entry))) ⌝ }
 {
     if fit {
@@ -32,6 +32,7 @@ pub fn open(words: usize, signers: &mut [Signer]) -> Opened
         (openedOf r ≡ mapped (λ ys. tt) o) × (now (signers .exit) ≡ lay (laid (λ ys. ys) o) (now (signers .entry)))
         ) ⌝ }
 {
+    // nobody asks here, and what the pass finds of signer 0 alone is not used
     let fit = opens(words, signers.len(), scan(signers, 0));
     renew(signers, fit)
 }
@@ -59,6 +60,7 @@ pub fn refill(words: usize, signers: &mut [Signer]) -> Opened
         (openedOf r ≡ mapped (λ ys. tt) o) × (now (signers .exit) ≡ lay (laid (λ ys. ys) o) (now (signers .entry)))
         ) ⌝ }
 {
+    // as in `open`
     let fit = stands(words, signers.len(), scan(signers, 0));
     renew(signers, fit)
 }

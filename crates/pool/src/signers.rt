@@ -1,6 +1,6 @@
 // The records of the signers: one pass that adds them up, and one that clears what they have drawn (02, order 9).
 //
-// The two that go through the list do no arithmetic of their own: it stands in `step`, and below.
+// The two that go through the list only count their turns: what is added up, `step` adds.
 ghost use mathlib.Core.Path.{_≡_};
 ghost use Prim.Native.Nat.{_<_, _≤_, min};
 ghost use lib.Dec.{eqb};
@@ -29,7 +29,7 @@ pub(crate) struct Sums {
     pub(crate) drawn: usize,
     pub(crate) claimed: usize,
     pub(crate) lacking: usize,
-    pub(crate) unfair: bool,
+    pub(crate) above: bool,
     pub(crate) over: bool,
 }
 
@@ -72,7 +72,7 @@ fn step(a: Sums, s: Signer, i: usize, asks: usize) -> Sums
         drawn: a.drawn + s.drawn as usize,
         claimed: a.claimed + claim,
         lacking,
-        unfair: a.unfair | (s.cap < s.reserve),
+        above: a.above | (s.cap < s.reserve),
         over: a.over | (s.cap < s.drawn),
     }
 }
@@ -94,7 +94,7 @@ pub(crate) fn scan(signers: &[Signer], asks: usize) -> Sums
         drawn: 0,
         claimed: 0,
         lacking: 0,
-        unfair: false,
+        above: false,
         over: false,
     };
     let n = lesser(signers.len(), SIGNERS);

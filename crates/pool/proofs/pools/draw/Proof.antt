@@ -50,7 +50,7 @@ use Rattle.pool.specs.Pool.{most-signers, noSigner, signerAt, drawOf}
 use Rattle.pool.specs.Scan.{Small, sumsOf}
 use Rattle.pool.specs.Scanning.{place-fits}
 use Rattle.pool.specs.Deciding.{drawBy, Decides}
-use Rattle.pool.specs.Ways.{Ended, stored, draw-refused, draw-granted}
+use Rattle.pool.specs.Ways.{Ended, stored, draw-ends-refused, draw-ends-granted}
 use Rattle.pool.specs.declared.signers.Signer.{Signer}
 use Rattle.pool.specs.declared.signers.Sums.{Sums}
 use Rattle.pool.specs.declared.deciding.Decided.{Decided}
@@ -269,13 +269,13 @@ module _ {M : Type 1} (𝓤 : URA M) (H : Heap 𝓤) (A : Atoms 𝓤) (W : Given
           (λ z. absurd z)
         where
           granted : (i < n) × Ended w ys i k d (drawOf w ys i k) (set ys i (stored w ys i k d))
-          granted = draw-granted w ys i k d h e
+          granted = draw-ends-granted w ys i k d h e
 
           fits : i * 12 < 2 ^ 64
           fits = place-fits i n (granted .0) (room .1)
       parts false e =
           first ! $ branches ! (load ! (from ! (stop !)) (look ! 8 refl)) (λ z. absurd z)
-          (λ _. skips ! $ exec ! C Λ E mir.t-8 (atRet E Post) $ rest false ys refl (draw-refused w ys i k d h e))
+          (λ _. skips ! $ exec ! C Λ E mir.t-8 (atRet E Post) $ rest false ys refl (draw-ends-refused w ys i k d h e))
 
     walk : ent 𝓤 (onEntry 𝓤 H A f.signature (κ, tt) (q, tt) x at)
         (WpFn 𝓤 H C Λ code.function (vint w64 w ∷ s ∷ vint w64 i ∷ vint w64 k ∷ []) Post)

@@ -31,5 +31,5 @@ open-spec 𝓤 H 𝓜 𝓖 𝓡 =
     (scan-thm.met 𝓤 H 𝓜 𝓖 𝓡))
     (cited 𝓤 H (Tests 𝓤 H (𝓖 .A) opensBy) 𝓜 𝓡 code.env #pool·deciding·opens opens-def.routine code.calls-pool·deciding·opens
     (opens-thm.met 𝓤 H 𝓜 𝓖 𝓡))
-    (cited 𝓤 H (Renew 𝓤 H (𝓖 .A)) 𝓜 𝓡 code.env #pool·pools·renew renew-def.routine code.calls-pool·pools·renew
+    (cited 𝓤 H (Renew 𝓤 H (𝓖 .A) (𝓜 .mem) (𝓡 .run)) 𝓜 𝓡 code.env #pool·pools·renew renew-def.routine code.calls-pool·pools·renew
     (renew-thm.met 𝓤 H 𝓜 𝓖 𝓡)))
