@@ -13,7 +13,7 @@ use pool::Drawn;
 use pool::Opened;
 use pool::Signer;
 
-// What an opening or a refill returns.
+// What an opening or a refill returns. It is open to the crate, since the walk that the two share names it.
 pub(crate) fn opened_number(answer: Opened) -> u32
     ensures { λ r. ⌜ r ≡ returned (openedOf answer) ⌝ }
 {

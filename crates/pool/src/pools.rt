@@ -14,7 +14,8 @@ use crate::signers::Signer;
 use crate::signers::clear;
 use crate::signers::scan;
 
-// Clears what the signers have drawn, where they fit, and answers whether they do.
+// Clears what the signers have drawn, where they fit, and answers whether they do. It is open to the crate, since the walk that `open` and
+// `refill` share names it.
 pub(crate) fn renew(signers: &mut [Signer], fit: bool) -> Opened
     ensures { λ r. ⌜ (openedOf r ≡ openedBy fit) × (now (signers .exit) ≡ clearedIf fit (now (signers .entry))) ⌝ }
 {
