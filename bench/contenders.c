@@ -23,16 +23,19 @@ static void start_none(const struct batch *b) { start_with(b, 0); }
 
 static void check(const struct batch *b) {
     (void)b;
-    size_t n_registers, n_inputs, n_outputs;
+    size_t n_registers, n_inputs, n_outputs, n_rows;
     uint32_t count;
-    refused |= corkhollow_check(program, program_length, &n_registers, &n_inputs, &n_outputs, &count);
+    refused |= corkhollow_check(program, program_length, &n_registers, &n_inputs, &n_outputs, &n_rows, &count);
 }
 
 static void slice(const struct batch *b) { refused |= corkhollow_slice(COLUMNS, b->strings, sizeof b->strings, sliced, COLUMNS); }
-static void read_samples(const struct batch *b) { refused |= corkhollow_samples(b->outputs, CORKHOLLOW_OUTPUTS, samples, sizeof samples); }
+
+static void read_samples(const struct batch *b) {
+    refused |= corkhollow_samples(ROWS, b->outputs, CORKHOLLOW_OUTPUTS, samples, sizeof samples);
+}
 
 static void read_signed(const struct batch *b) {
-    refused |= corkhollow_signed_samples(b->outputs, CORKHOLLOW_OUTPUTS, b->sign, signed_samples, CORKHOLLOW_LANES);
+    refused |= corkhollow_signed_samples(ROWS, b->outputs, CORKHOLLOW_OUTPUTS, b->sign, signed_samples, CORKHOLLOW_LANES);
 }
 
 static void draw(const struct batch *b) {

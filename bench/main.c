@@ -18,15 +18,15 @@ static size_t load(const char *name, uint8_t *bytes, size_t most) {
 /* Compiles the matrix; the program must be the one expected, and the one that the straight-line C was made of. */
 static bool program_compiled(const char *name) {
     static uint8_t written[CORKHOLLOW_MOST_PROGRAM_BYTES];
-    size_t n_registers, n_inputs, n_outputs;
+    size_t n_registers, n_inputs, n_outputs, n_rows;
     uint32_t count = 0;
     size_t written_length = load(name, written, sizeof written);
     if (corkhollow_compile(matrix, matrix_length, program, sizeof program, &program_length)) return false;
-    if (corkhollow_check(program, program_length, &n_registers, &n_inputs, &n_outputs, &count)) return false;
-    printf("%u instructions in %zu bytes; %zu registers, %zu inputs, %zu outputs\n", (unsigned)count, program_length, n_registers,
-           n_inputs, n_outputs);
-    return count == INSTRUCTIONS && n_inputs == COLUMNS && n_outputs == CORKHOLLOW_OUTPUTS && written_length == program_length &&
-           !memcmp(written, program, program_length);
+    if (corkhollow_check(program, program_length, &n_registers, &n_inputs, &n_outputs, &n_rows, &count)) return false;
+    printf("%u instructions in %zu bytes; %zu registers, %zu inputs, %zu outputs, %zu rows\n", (unsigned)count, program_length,
+           n_registers, n_inputs, n_outputs, n_rows);
+    return count == INSTRUCTIONS && n_inputs == COLUMNS && n_outputs == CORKHOLLOW_OUTPUTS && n_rows == ROWS &&
+           written_length == program_length && !memcmp(written, program, program_length);
 }
 
 int main(int argc, char **argv) {

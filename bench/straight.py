@@ -24,7 +24,7 @@ def fields(data):
 
 def instructions(data):
     """Kind and operands of each instruction. The engine wrote the file, so nothing is checked."""
-    at = 14
+    at = 16
     while at < len(data):
         length = data[at] | data[at + 1] << 8
         yield fields(data[at + 2 : at + length])

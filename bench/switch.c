@@ -4,8 +4,8 @@
 static inline unsigned field(const uint8_t *p) { return p[0] | (unsigned)p[1] << 8; }
 
 void switch_run(const uint8_t *file, const uint64_t *inputs, uint64_t *registers, uint64_t *outputs) {
-    uint32_t count = field(file + 10) | (uint32_t)field(file + 12) << 16;
-    const uint8_t *p = file + 14;
+    uint32_t count = field(file + 12) | (uint32_t)field(file + 14) << 16;
+    const uint8_t *p = file + 16;
     for (uint32_t i = 0; i < count; i++) {
         switch (field(p + 2)) {
         case 1: registers[field(p + 4)] = ~(uint64_t)0; break;

@@ -11,7 +11,7 @@
 enum { ROWS = 20, COLUMNS = 128, A_LINE = 16 };
 
 /* The fields of a program file that are read here: each is 16 bits, lowest byte first. */
-enum { HEADER = 14, LENGTH = 0, KIND = 2, INPUT_NUMBER = 6, INPUT = 3 };
+enum { HEADER = 16, LENGTH = 0, KIND = 2, INPUT_NUMBER = 6, INPUT = 3 };
 
 /*
  * The words that the source has each time it is asked; they add up to 128. The first stops come early, as most lanes hit a row within a few
@@ -21,7 +21,7 @@ static const size_t deliveries[] = {3, 1, 40, 84};
 
 struct program {
     uint8_t bytes[CORKHOLLOW_MOST_PROGRAM_BYTES];
-    size_t length, registers, inputs, outputs;
+    size_t length, registers, inputs, outputs, rows;
     uint32_t count;
 };
 
@@ -40,7 +40,7 @@ static void prepare(struct program *p) {
     must("corkhollow_build", corkhollow_build(weights, ROWS, COLUMNS, false, matrix, sizeof matrix, &length));
     must("corkhollow_compile", corkhollow_compile(matrix, length, p->bytes, sizeof p->bytes, &p->length));
     must("corkhollow_check",
-         corkhollow_check(p->bytes, p->length, &p->registers, &p->inputs, &p->outputs, &p->count));
+         corkhollow_check(p->bytes, p->length, &p->registers, &p->inputs, &p->outputs, &p->rows, &p->count));
 }
 
 static unsigned field(const uint8_t *at) { return at[0] | (unsigned)at[1] << 8; }
@@ -98,7 +98,7 @@ static uint32_t run_with_stops(const struct program *p, const uint64_t *words, s
 }
 
 static void read_samples(const struct program *p, const struct run *r, uint8_t *samples) {
-    must("corkhollow_samples", corkhollow_samples(r->outputs, p->outputs, samples, CORKHOLLOW_LANES));
+    must("corkhollow_samples", corkhollow_samples(p->rows, r->outputs, p->outputs, samples, CORKHOLLOW_LANES));
 }
 
 static void print_samples(const char *title, const uint8_t *samples) {

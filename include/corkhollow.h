@@ -16,7 +16,8 @@
  * - On a refusal nothing lent has changed, the numbers included. On success a buffer has its result at the front; beyond that
  *   nothing has changed.
  * - A buffer longer than needed is never refused, and its rest is neither read nor written. A file is exactly its length: bytes left over
- *   are a refusal. The records of a pool are as many as their length says.
+ *   are a refusal. Weights, output words that samples are read off, the numbers of a cumulative table that is imported or looked up, and
+ *   the records of a pool are as many as their length says.
  * - A file of 4 bytes or more is tried for its kind before its length: 2 says that it is another file, whole or cut short, and 1 that it
  *   is of the kind expected and shorter than its records say. Under 4 bytes there is no kind to try, and it is 1.
  * - A string of n bits is packed into CORKHOLLOW_WIDTH(n) bytes, bit 0 highest in the first byte. Where n is no multiple of 8, the spare
@@ -52,12 +53,14 @@ extern "C" {
 enum corkhollow_refusal {
     CORKHOLLOW_OK = 0,
     CORKHOLLOW_SHORT = 1,       /* a file under 4 bytes; a matrix file under 8 bytes or shorter than its length field, a program file under
-                                   14, an instruction cut short */
+                                   16, an instruction cut short */
     CORKHOLLOW_KIND = 2,        /* the first record is not of the kind expected: another file, also one cut short, from 4 bytes on */
     CORKHOLLOW_SIZE = 3,        /* rows, columns, weights, registers, inputs, outputs, instructions, output words, numbers of a cumulative
-                                   table, a number that is looked up, signers, or words of a pool, outside the limits; a row asked for that
-                                   the matrix has not; reserves that no pool can be opened with, or records that no draws can have left */
-    CORKHOLLOW_LENGTH = 4,      /* a length field that is not what the header requires, or bytes left over */
+                                   table, a number that is looked up, signers, or words of a pool, outside the limits; outputs, or output
+                                   words, that are not as many as their rows take; a row asked for that the matrix has not; reserves that
+                                   no pool can be opened with, or records that no draws can have left */
+    CORKHOLLOW_LENGTH = 4,      /* a length field that is not what the header requires, a program's header of other than 16 bytes, or bytes
+                                   left over */
     CORKHOLLOW_BIT = 5,         /* a spare bit set, an entry neither 0 nor 1, or an entry of a list that is no signed sample */
     CORKHOLLOW_SUM = 6,         /* the rows of the matrix add up to more than 2^columns */
     CORKHOLLOW_INSTRUCTION = 7, /* an instruction's kind is not 1 to 7, or its length not that kind's */
@@ -101,7 +104,7 @@ enum corkhollow_refusal {
 /* Buffers of these lengths are never too short: entries, a matrix file, a program file, the 64 strings of a batch, a cumulative table. */
 #define CORKHOLLOW_MOST_ENTRIES ((size_t)CORKHOLLOW_ROWS * CORKHOLLOW_COLUMNS)
 #define CORKHOLLOW_MOST_MATRIX_BYTES CORKHOLLOW_MATRIX_LENGTH(CORKHOLLOW_ROWS, CORKHOLLOW_COLUMNS)
-#define CORKHOLLOW_MOST_PROGRAM_BYTES (14 + 10 * (size_t)CORKHOLLOW_INSTRUCTIONS)
+#define CORKHOLLOW_MOST_PROGRAM_BYTES (16 + 10 * (size_t)CORKHOLLOW_INSTRUCTIONS)
 #define CORKHOLLOW_MOST_STRING_BYTES (CORKHOLLOW_LANES * CORKHOLLOW_WIDTH(CORKHOLLOW_COLUMNS))
 #define CORKHOLLOW_MOST_TABLE_NUMBERS ((size_t)CORKHOLLOW_ROWS + 1)
 
@@ -181,6 +184,14 @@ uint32_t corkhollow_string_for(const uint8_t *file, size_t file_length,
 /* ---- program files ---- */
 
 /*
+ * The header of a program file says its rows, those of the matrix file that it was compiled from: no sample of the program is as large. Its
+ * outputs are one that says whether a lane hits and, after it, one for each bit of the largest sample: with 1 row none, with 2 rows 1, with
+ * up to 4 rows 2, up to 8 rows 3, up to 16 rows 4, up to 32 rows 5, up to 64 rows 6, up to 128 rows 7.
+ *
+ * A program file from before that, whose header has 14 bytes and no rows, is 4: compile its matrix file again.
+ */
+
+/*
  * Compiles a matrix file to a program file, and tells its length.
  * Refusals, in the order tried: 1 under 4 bytes, 2, 1, 3, 4, 5, 6 for the file; 13 for `program`.
  */
@@ -189,12 +200,13 @@ uint32_t corkhollow_compile(const uint8_t *file, size_t file_length,
                             size_t *length);
 
 /*
- * Checks a program file: the registers, inputs and outputs that it takes, and its number of instructions.
- * Refusals, in the order tried: 1 under 4 bytes, 2, 1, 3, 4 for the header; 1, 7, 8, 9 for each instruction in turn; 4 for bytes
- * left over; 10.
+ * Checks a program file: the registers, inputs and outputs that it takes, its rows, and its number of instructions.
+ * Refusals, in the order tried: 1 under 4 bytes, 2, 1 under 16 bytes, 4 for a header length other than 16; 3 for registers, inputs,
+ * outputs, rows or instructions outside the limits, or for outputs that are not as many as the rows take; 1, 7, 8, 9 for each instruction
+ * in turn; 4 for bytes left over; 10.
  */
 uint32_t corkhollow_check(const uint8_t *program, size_t program_length,
-                          size_t *registers, size_t *inputs, size_t *outputs, uint32_t *count);
+                          size_t *registers, size_t *inputs, size_t *outputs, size_t *rows, uint32_t *count);
 
 /*
  * Starts a program: the whole program is checked, the registers and outputs that its header counts are set to 0, and it runs from
@@ -235,17 +247,22 @@ uint32_t corkhollow_slice(size_t columns,
 
 /*
  * Reads 64 samples off output words: sample j is the number that bit j of words 1 and up spells, lowest first, where bit j of word 0 is
- * set, and otherwise CORKHOLLOW_MISS. All `outputs_length` words are read: lend as many as the program has outputs.
- * Refusals, in the order tried: 3 for the number of words, 13 for `samples` under 64.
+ * set and the number is below `rows`, and otherwise CORKHOLLOW_MISS. Give the rows of the program that left the words, and lend as many
+ * words as it has outputs, no more: corkhollow_check tells both. No lane of a compiled program spells a number that is not below its rows.
+ * Refusals, in the order tried: 3 for `rows` outside 1 to 128, or for other than as many words as these rows take; 13 for `samples` under
+ * 64.
  */
-uint32_t corkhollow_samples(const uint64_t *outputs, size_t outputs_length,
+uint32_t corkhollow_samples(size_t rows,
+                            const uint64_t *outputs, size_t outputs_length,
                             uint8_t *samples, size_t samples_length);
 
 /*
- * Reads 64 signed samples: sample j is negated where bit j of `sign` is set. Zero stays zero, and a miss is CORKHOLLOW_SIGNED_MISS.
- * Refusals, in the order tried: 3 for the number of words, 13 for `samples` under 64.
+ * Reads 64 signed samples: sample j is negated where bit j of `sign` is set. Zero stays zero, and a miss, also that of a lane whose number
+ * is not below `rows`, is CORKHOLLOW_SIGNED_MISS whatever its sign.
+ * Refusals as for corkhollow_samples.
  */
-uint32_t corkhollow_signed_samples(const uint64_t *outputs, size_t outputs_length,
+uint32_t corkhollow_signed_samples(size_t rows,
+                                   const uint64_t *outputs, size_t outputs_length,
                                    uint64_t sign,
                                    int16_t *samples, size_t samples_length);
 
@@ -253,7 +270,7 @@ uint32_t corkhollow_signed_samples(const uint64_t *outputs, size_t outputs_lengt
 
 /*
  * Draws 64 samples: checks the program, slices 64 packed strings of as many bits as it has inputs, starts it on words of the engine's own
- * until it finishes, and reads the samples. No batch can inherit another's words.
+ * until it finishes, and reads the samples with the rows that its header says. No batch can inherit another's words.
  * Refusals, in the order tried: those of corkhollow_check; 13, then 5 for `strings`; 13 for `samples` under 64.
  */
 uint32_t corkhollow_draw(const uint8_t *program, size_t program_length,

@@ -34,7 +34,7 @@ pub const COMBINED_MISS: i32 = 2_147_483_647;
 /// Buffers of these lengths are never too short: entries, a matrix file, a program file, the 64 strings of a batch, a cumulative table.
 pub const MOST_ENTRIES: usize = ROWS * COLUMNS;
 pub const MOST_MATRIX_BYTES: usize = matrix_length(ROWS, COLUMNS);
-pub const MOST_PROGRAM_BYTES: usize = 14 + 10 * INSTRUCTIONS;
+pub const MOST_PROGRAM_BYTES: usize = 16 + 10 * INSTRUCTIONS;
 pub const MOST_STRING_BYTES: usize = LANES * width(COLUMNS);
 pub const MOST_TABLE_NUMBERS: usize = ROWS + 1;
 
@@ -115,6 +115,7 @@ pub mod raw {
             registers: *mut usize,
             inputs: *mut usize,
             outputs: *mut usize,
+            rows: *mut usize,
             count: *mut u32,
         ) -> u32;
         pub fn corkhollow_start(
@@ -154,12 +155,14 @@ pub mod raw {
             words_length: usize,
         ) -> u32;
         pub fn corkhollow_samples(
+            rows: usize,
             outputs: *const u64,
             outputs_length: usize,
             samples: *mut u8,
             samples_length: usize,
         ) -> u32;
         pub fn corkhollow_signed_samples(
+            rows: usize,
             outputs: *const u64,
             outputs_length: usize,
             sign: u64,
@@ -250,7 +253,10 @@ impl fmt::Display for Refusal {
         let why = match self.0 {
             1 => "shorter than its records say",
             2 => "not the kind of file expected",
-            3 => "a size, or a number that is looked up, outside the limits, a row that the matrix has not, or records that no pool has",
+            3 => {
+                "a size, or a number that is looked up, outside the limits, outputs that are not as many as the rows take, \
+                 a row that the matrix has not, or records that no pool has"
+            }
             4 => "a length field that does not fit, or bytes left over",
             5 => "a spare bit set, an entry neither 0 nor 1, or one of a list that is no signed sample",
             6 => "the rows add up to more than 2^columns",
@@ -282,12 +288,13 @@ pub struct Walk {
     pub used: usize,
 }
 
-/// What a program's header says.
+/// What a program's header says. The rows are those of the matrix file that it was compiled from: no sample of the program is as large.
 #[derive(Clone, Copy, Debug, PartialEq, Eq)]
 pub struct Header {
     pub registers: usize,
     pub inputs: usize,
     pub outputs: usize,
+    pub rows: usize,
     pub count: u32,
 }
 
@@ -451,7 +458,7 @@ pub fn compile(file: &[u8], program: &mut [u8]) -> Result<usize, Refusal> {
 
 /// Checks a program file: what its header says.
 pub fn check(program: &[u8]) -> Result<Header, Refusal> {
-    let (mut registers, mut inputs, mut outputs, mut count) = (0, 0, 0, 0);
+    let (mut registers, mut inputs, mut outputs, mut rows, mut count) = (0, 0, 0, 0, 0);
     // SAFETY: as in `read`.
     let returned = unsafe {
         raw::corkhollow_check(
@@ -460,6 +467,7 @@ pub fn check(program: &[u8]) -> Result<Header, Refusal> {
             &mut registers,
             &mut inputs,
             &mut outputs,
+            &mut rows,
             &mut count,
         )
     };
@@ -467,6 +475,7 @@ pub fn check(program: &[u8]) -> Result<Header, Refusal> {
         registers,
         inputs,
         outputs,
+        rows,
         count,
     };
     settle(returned, header)
@@ -557,11 +566,13 @@ pub fn slice(columns: usize, strings: &[u8], words: &mut [u64]) -> Result<(), Re
     settle(returned, ())
 }
 
-/// Reads 64 samples off output words.
-pub fn samples(outputs: &[u64], samples: &mut [u8]) -> Result<(), Refusal> {
+/// Reads 64 samples off output words, as many as the program that left them has outputs; a number that is not below its rows is a miss.
+/// `check` tells both.
+pub fn samples(rows: usize, outputs: &[u64], samples: &mut [u8]) -> Result<(), Refusal> {
     // SAFETY: as in `read`.
     let returned = unsafe {
         raw::corkhollow_samples(
+            rows,
             outputs.as_ptr(),
             outputs.len(),
             samples.as_mut_ptr(),
@@ -571,11 +582,17 @@ pub fn samples(outputs: &[u64], samples: &mut [u8]) -> Result<(), Refusal> {
     settle(returned, ())
 }
 
-/// Reads 64 signed samples off output words, with a sign word.
-pub fn signed_samples(outputs: &[u64], sign: u64, samples: &mut [i16]) -> Result<(), Refusal> {
+/// Reads 64 signed samples off output words, with a sign word, and else as `samples` does.
+pub fn signed_samples(
+    rows: usize,
+    outputs: &[u64],
+    sign: u64,
+    samples: &mut [i16],
+) -> Result<(), Refusal> {
     // SAFETY: as in `read`.
     let returned = unsafe {
         raw::corkhollow_signed_samples(
+            rows,
             outputs.as_ptr(),
             outputs.len(),
             sign,
@@ -586,7 +603,7 @@ pub fn signed_samples(outputs: &[u64], sign: u64, samples: &mut [i16]) -> Result
     settle(returned, ())
 }
 
-/// Draws 64 samples from a program and 64 packed strings.
+/// Draws 64 samples from a program and 64 packed strings, with the rows that its header says.
 pub fn draw(program: &[u8], strings: &[u8], samples: &mut [u8]) -> Result<(), Refusal> {
     // SAFETY: as in `read`.
     let returned = unsafe {

@@ -1,8 +1,10 @@
-//! 01, "Translation", and 02, order 6: from a matrix to its program.
+//! 01, "Translation", and 02, order 10: from a matrix to its program.
 
 use crate::matrix::{self, Matrix};
 use crate::program::{Header, Instruction, Operation, Program};
 use crate::refusal::{refuse, Answer, BUFFER};
+
+pub use crate::program::{value_bits, VALUE_BIT_CASES};
 
 /// The registers of a translated program, by the letters that 01 gives them.
 struct Registers {
@@ -52,25 +54,6 @@ impl Code {
     }
 }
 
-/// 02, order 6: from so many rows to so many need so many value bits.
-pub const VALUE_BIT_CASES: [(usize, usize, usize); 8] = [
-    (1, 1, 0),
-    (2, 2, 1),
-    (3, 4, 2),
-    (5, 8, 3),
-    (9, 16, 4),
-    (17, 32, 5),
-    (33, 64, 6),
-    (65, 128, 7),
-];
-
-/// k: the bits needed to write m - 1, 0 for m = 1. Tests hold it to the cases.
-pub fn value_bits(rows: usize) -> usize {
-    (0..)
-        .find(|&k| rows - 1 < 1 << k)
-        .expect("some power of two is larger")
-}
-
 /// The rows set in a column, in the order in which the walk meets them.
 fn rows_met(matrix: &Matrix, column: usize) -> Vec<usize> {
     (0..matrix.rows)
@@ -100,6 +83,7 @@ pub fn translate(matrix: &Matrix) -> Program {
         registers: registers.number(),
         inputs: matrix.columns,
         outputs: 1 + registers.value_bits,
+        rows: matrix.rows,
         count: code.instructions.len(),
     };
     Program {

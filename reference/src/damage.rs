@@ -96,7 +96,7 @@ pub fn matrix_limit_edits(file: &[u8]) -> Vec<Edit> {
 /// order 8). They stand apart likewise.
 pub fn program_limit_edits(file: &[u8]) -> Vec<Edit> {
     let mut edits = set_to(file, 6, &[136, 191, 192, 193, 200, 256 + 192]);
-    edits.extend(set_to(file, 12, &[4, 5, 256 + 4]));
+    edits.extend(set_to(file, 14, &[4, 5, 256 + 4]));
     edits
 }
 
@@ -139,16 +139,17 @@ pub fn instruction_edits(file: &[u8]) -> Vec<Edit> {
     edits
 }
 
-/// Edits of the header fields of a program file, and of its end. 128 was the most inputs, and twice
-/// 65,536 the most instructions.
+/// Edits of the header fields of a program file, and of its end. 14 was the length of a header, 128
+/// the most inputs, and twice 65,536 the most instructions.
 pub fn program_header_edits(file: &[u8]) -> Vec<Edit> {
-    let mut edits = field_edits(file, 0, &[13, 15, 16]);
+    let mut edits = field_edits(file, 0, &[14, 15, 17]);
     edits.extend(field_edits(file, 2, &[15, 17, 32]));
     edits.extend(field_edits(file, 4, &[1_024, 1_025]));
     edits.extend(field_edits(file, 6, &[128, 129]));
     edits.extend(field_edits(file, 8, &[8, 9]));
-    edits.extend(field_edits(file, 10, &[]));
-    edits.extend(field_edits(file, 12, &[2, 3]));
+    edits.extend(field_edits(file, 10, &[128, 129]));
+    edits.extend(field_edits(file, 12, &[]));
+    edits.extend(field_edits(file, 14, &[2, 3]));
     edits.extend([Edit::More(vec![0]), Edit::More(vec![6, 0, 1, 0, 0, 0])]);
     edits.extend([3, PROGRAM_HEADER - 1, PROGRAM_HEADER, file.len() - 1].map(Edit::Cut));
     edits

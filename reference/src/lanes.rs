@@ -1,7 +1,7 @@
-//! 01, "Runs, words, samples": strings to words, and output words to samples.
+//! 01, "Runs, words, samples", and 02, order 10: strings to words, and output words to samples.
 
 use crate::matrix::MOST_COLUMNS;
-use crate::program::MOST_OUTPUTS;
+use crate::program::outputs_suit;
 use crate::record::{has_spare_bit, packed_length, unpack};
 use crate::refusal::{refuse, Answer, BIT, BUFFER, SIZE};
 
@@ -42,43 +42,48 @@ pub fn words_of(columns: usize, strings: &[u8]) -> Vec<u64> {
 }
 
 /// What a lane of the output words says: the number in outputs 1 and up, lowest first, or nothing
-/// where output 0 has no bit.
-pub fn drawn(outputs: &[u64], lane: usize) -> Option<u8> {
+/// where output 0 has no bit, or where that number is no row's.
+pub fn drawn(rows: usize, outputs: &[u64], lane: usize) -> Option<u8> {
     let bit = |output: usize| (outputs[output] >> lane & 1) as u8;
     let number = (1..outputs.len())
         .map(|output| bit(output) << (output - 1))
         .sum();
-    (bit(0) == 1).then_some(number)
+    (bit(0) == 1 && usize::from(number) < rows).then_some(number)
 }
 
 /// Samples: one byte a lane, laid into a buffer of `samples_lent` bytes.
-pub fn samples(outputs: &[u64], samples_lent: usize) -> Answer<Vec<u8>> {
-    check_samples(outputs, samples_lent)?;
-    Ok(samples_of(outputs))
+pub fn samples(rows: usize, outputs: &[u64], samples_lent: usize) -> Answer<Vec<u8>> {
+    check_samples(rows, outputs, samples_lent)?;
+    Ok(samples_of(rows, outputs))
 }
 
 /// Signed samples: 16 bits a lane, laid into a buffer of `samples_lent` numbers.
-pub fn signed_samples(outputs: &[u64], sign: u64, samples_lent: usize) -> Answer<Vec<i16>> {
-    check_samples(outputs, samples_lent)?;
-    Ok(signed_samples_of(outputs, sign))
+pub fn signed_samples(
+    rows: usize,
+    outputs: &[u64],
+    sign: u64,
+    samples_lent: usize,
+) -> Answer<Vec<i16>> {
+    check_samples(rows, outputs, samples_lent)?;
+    Ok(signed_samples_of(rows, outputs, sign))
 }
 
-/// 3 for the number of output words, 13 for fewer than 64 samples.
-fn check_samples(outputs: &[u64], samples_lent: usize) -> Answer<()> {
-    refuse(SIZE, !(1..=MOST_OUTPUTS).contains(&outputs.len()))?;
+/// 3 for the rows, and for output words that do not suit them, 13 for fewer than 64 samples.
+fn check_samples(rows: usize, outputs: &[u64], samples_lent: usize) -> Answer<()> {
+    refuse(SIZE, !outputs_suit(rows, outputs.len()))?;
     refuse(BUFFER, samples_lent < LANES)
 }
 
 /// The sample of every lane.
-pub fn samples_of(outputs: &[u64]) -> Vec<u8> {
+pub fn samples_of(rows: usize, outputs: &[u64]) -> Vec<u8> {
     (0..LANES)
-        .map(|lane| drawn(outputs, lane).unwrap_or(MISS))
+        .map(|lane| drawn(rows, outputs, lane).unwrap_or(MISS))
         .collect()
 }
 
 /// The signed sample of every lane.
-pub fn signed_samples_of(outputs: &[u64], sign: u64) -> Vec<i16> {
-    let signed = |lane: usize| match drawn(outputs, lane) {
+pub fn signed_samples_of(rows: usize, outputs: &[u64], sign: u64) -> Vec<i16> {
+    let signed = |lane: usize| match drawn(rows, outputs, lane) {
         None => SIGNED_MISS,
         Some(number) if sign >> lane & 1 == 1 => -i16::from(number),
         Some(number) => i16::from(number),

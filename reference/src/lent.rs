@@ -108,12 +108,14 @@ pub fn check(
     registers: &mut usize,
     inputs: &mut usize,
     outputs: &mut usize,
+    rows: &mut usize,
     count: &mut u32,
 ) -> u32 {
     settle(program::check(program), |header| {
         *registers = header.registers;
         *inputs = header.inputs;
         *outputs = header.outputs;
+        *rows = header.rows;
         *count = header.count as u32;
     })
 }
@@ -179,15 +181,14 @@ pub fn slice(columns: usize, strings: &[u8], words: &mut [u64]) -> u32 {
 }
 
 /// Reading samples.
-pub fn samples(outputs: &[u64], samples: &mut [u8]) -> u32 {
-    settle(lanes::samples(outputs, samples.len()), |laid| {
-        lay(&laid, samples)
-    })
+pub fn samples(rows: usize, outputs: &[u64], samples: &mut [u8]) -> u32 {
+    let answer = lanes::samples(rows, outputs, samples.len());
+    settle(answer, |laid| lay(&laid, samples))
 }
 
 /// Reading signed samples.
-pub fn signed_samples(outputs: &[u64], sign: u64, samples: &mut [i16]) -> u32 {
-    let answer = lanes::signed_samples(outputs, sign, samples.len());
+pub fn signed_samples(rows: usize, outputs: &[u64], sign: u64, samples: &mut [i16]) -> u32 {
+    let answer = lanes::signed_samples(rows, outputs, sign, samples.len());
     settle(answer, |laid| lay(&laid, samples))
 }
 

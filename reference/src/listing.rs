@@ -1,4 +1,4 @@
-//! 01, "Checked by hand": what the program `lister` prints.
+//! 01, "Checked by hand", and 02, order 10: what the program `lister` prints.
 
 use crate::compiler::compile;
 use crate::program::{decode, Program};
@@ -20,12 +20,12 @@ fn program_of(file: &[u8]) -> Answer<Program> {
     decode(&compile(file, MOST_LISTED)?)
 }
 
-/// Registers, inputs, outputs, count; then a line an instruction: position, name, operands.
+/// Registers, inputs, outputs, rows, count; then a line an instruction: position, name, operands.
 pub fn listing(program: &Program) -> String {
     let header = &program.header;
     let mut text = format!(
-        "{} {} {} {}\n",
-        header.registers, header.inputs, header.outputs, header.count
+        "{} {} {} {} {}\n",
+        header.registers, header.inputs, header.outputs, header.rows, header.count
     );
     for (position, instruction) in program.instructions.iter().enumerate() {
         text.push_str(&format!("{position} {}", instruction.form.name));

@@ -1,4 +1,5 @@
-//! 01, "Files", and 02, order 8: the description of a program, its bytes, and its checks.
+//! 01, "Files", and 02, order 8 and order 10: the description of a program, its bytes, and its
+//! checks. 02, order 6: how many outputs so many rows take.
 
 use crate::record::{expect_kind, field, put};
 use crate::refusal::{refuse, Answer, INSTRUCTION, LENGTH, OPERAND, SHORT, SIZE, UNSET, UNWRITTEN};
@@ -9,12 +10,38 @@ pub const MOST_REGISTERS: usize = 1_024;
 pub const MOST_INPUTS: usize = 192;
 /// The most outputs of a program.
 pub const MOST_OUTPUTS: usize = 8;
+/// The most rows of a program (02, order 10): as many as a matrix has.
+pub const MOST_ROWS: usize = 128;
 /// The most instructions of a program (02, order 8).
 pub const MOST_INSTRUCTIONS: usize = 262_144;
 /// The kind of a program's header record.
 pub const PROGRAM_KIND: usize = 16;
-/// The length of a program's header record.
-pub const PROGRAM_HEADER: usize = 14;
+/// The length of a program's header record (02, order 10).
+pub const PROGRAM_HEADER: usize = 16;
+
+/// 02, order 6: from so many rows to so many need so many value bits.
+pub const VALUE_BIT_CASES: [(usize, usize, usize); 8] = [
+    (1, 1, 0),
+    (2, 2, 1),
+    (3, 4, 2),
+    (5, 8, 3),
+    (9, 16, 4),
+    (17, 32, 5),
+    (33, 64, 6),
+    (65, 128, 7),
+];
+
+/// k: the bits needed to write m - 1, 0 for m = 1. Tests hold it to the cases.
+pub fn value_bits(rows: usize) -> usize {
+    (0..)
+        .find(|&k| rows - 1 < 1 << k)
+        .expect("some power of two is larger")
+}
+
+/// 02, order 10: whether so many outputs go with so many rows. Any number of rows may be asked for.
+pub fn outputs_suit(rows: usize, outputs: usize) -> bool {
+    (1..=MOST_ROWS).contains(&rows) && outputs == value_bits(rows) + 1
+}
 
 /// What an operand stands for.
 #[derive(Clone, Copy, Debug, PartialEq, Eq)]
@@ -140,15 +167,17 @@ pub struct Header {
     pub registers: usize,
     pub inputs: usize,
     pub outputs: usize,
+    pub rows: usize,
     pub count: usize,
 }
 
 impl Header {
-    /// Whether all four are within the limits of a program.
+    /// Whether all five are within the limits of a program, and the outputs suit the rows.
     pub fn is_within_limits(&self) -> bool {
         (1..=MOST_REGISTERS).contains(&self.registers)
             && (1..=MOST_INPUTS).contains(&self.inputs)
             && (1..=MOST_OUTPUTS).contains(&self.outputs)
+            && outputs_suit(self.rows, self.outputs)
             && self.count <= MOST_INSTRUCTIONS
     }
 
@@ -169,6 +198,7 @@ impl Header {
         put(&mut file, self.registers);
         put(&mut file, self.inputs);
         put(&mut file, self.outputs);
+        put(&mut file, self.rows);
         let count = u32::try_from(self.count).expect("a count has 32 bits");
         file.extend_from_slice(&count.to_le_bytes());
         file
@@ -230,18 +260,20 @@ pub fn decode(file: &[u8]) -> Answer<Program> {
     })
 }
 
-/// The header of a program file: 1 and 2 of its first four bytes, then 1, 3 and 4 of the whole.
+/// The header of a program file: 1 and 2 of its first four bytes, then 1, 4 and 3 of the whole. 02,
+/// order 10: here 4 is tried before 3.
 fn decode_header(file: &[u8]) -> Answer<Header> {
     expect_kind(file, PROGRAM_KIND)?;
     refuse(SHORT, file.len() < PROGRAM_HEADER)?;
+    refuse(LENGTH, field(file, 0) != PROGRAM_HEADER)?;
     let header = Header {
         registers: field(file, 4),
         inputs: field(file, 6),
         outputs: field(file, 8),
-        count: field(file, 10) + (field(file, 12) << 16),
+        rows: field(file, 10),
+        count: field(file, 12) + (field(file, 14) << 16),
     };
     refuse(SIZE, !header.is_within_limits())?;
-    refuse(LENGTH, field(file, 0) != PROGRAM_HEADER)?;
     Ok(header)
 }
 
@@ -274,7 +306,7 @@ fn check_operands(header: &Header, instruction: &Instruction, written: &[bool]) 
     refuse(UNWRITTEN, reads.any(|from| !written[from]))
 }
 
-/// Checking: registers, inputs, outputs and count of a program file.
+/// Checking: registers, inputs, outputs, rows and count of a program file.
 pub fn check(file: &[u8]) -> Answer<Header> {
     decode(file).map(|program| program.header)
 }

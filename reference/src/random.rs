@@ -6,7 +6,7 @@ use crate::damage::NO_SAMPLES;
 use crate::lanes::{LANES, SIGNED_MISS};
 use crate::matrix::{Matrix, MOST_COLUMNS, MOST_ROWS};
 use crate::natural::Natural;
-use crate::program::{Header, Instruction, Operation, Program, Role};
+use crate::program::{Header, Instruction, Operation, Program, Role, VALUE_BIT_CASES};
 use crate::record::pack;
 use crate::walk::{place_after_column, Place};
 use crate::wide::MOST_SAMPLE;
@@ -21,6 +21,11 @@ impl Random {
     /// The generator at its start.
     pub fn new(seed: u64) -> Self {
         Random { state: seed }
+    }
+
+    /// A generator of its own, which leaves this one where it stands.
+    pub fn aside(&self) -> Self {
+        Random::new(self.clone().word())
     }
 
     /// The next 64 bits.
@@ -332,14 +337,24 @@ pub fn table_fault(random: &mut Random, table: &mut [u64], columns: usize) {
     }
 }
 
+/// Rows that go with so many outputs: the fewest, the most, or any.
+pub fn rows_for(random: &mut Random, outputs: usize) -> usize {
+    let (fewest, most, _) = VALUE_BIT_CASES[outputs - 1];
+    let any = random.between(fewest, most);
+    random.pick(&[fewest, most, any, any])
+}
+
 /// An accepted program with `body` instructions and as many more as set the outputs that are left.
+/// Its rows come from a generator aside, so that the others are what they were before 02, order 10.
 pub fn program(random: &mut Random, body: usize) -> Program {
     let mut header = Header {
         registers: random.between(1, 12),
         inputs: random.between(1, 6),
         outputs: random.between(1, 8),
+        rows: 0,
         count: 0,
     };
+    header.rows = rows_for(&mut random.aside(), header.outputs);
     let mut written = vec![];
     let mut instructions = Vec::new();
     for _ in 0..body {

@@ -7,8 +7,8 @@ pub type Answer<T> = Result<T, u32>;
 pub const SHORT: u32 = 1;
 /// The first record's kind is not the one expected.
 pub const KIND: u32 = 2;
-/// A size, or a number that is looked up, outside its limits, a row that the matrix has not, or
-/// records that no pool can have.
+/// A size, or a number that is looked up, outside its limits, outputs that do not suit the rows, a
+/// row that the matrix has not, or records that no pool can have.
 pub const SIZE: u32 = 3;
 /// A length field that is not what the header requires, or bytes left over.
 pub const LENGTH: u32 = 4;

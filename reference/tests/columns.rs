@@ -324,7 +324,7 @@ fn cumulative_tables_keep_63_columns() {
 /// A program with the most registers and outputs: INPUT 1023 of the last input, then NOT 1023 1023,
 /// then every output from register 1023; its header counts `count` instructions, and `there` are.
 fn long_program(inputs: usize, count: u32, there: usize) -> Vec<u8> {
-    let mut file = record(&[14, 16, 1_024, inputs, 8], 0);
+    let mut file = record(&[16, 16, 1_024, inputs, 8, 128], 0);
     file.extend(count.to_le_bytes());
     file.extend(record(&[8, 3, 1_023, inputs - 1], 0));
     file.extend(record(&[8, 4, 1_023, 1_023], 0).repeat(there - 9));
@@ -347,7 +347,7 @@ fn inputs_from_1_to_192_are_taken() {
         assert_eq!(start(&program, &words[1..], 1_024, 8, 9), Err(13));
         // The next input number is 8.
         let mut beyond = program.clone();
-        beyond[20] += 1;
+        beyond[22] += 1;
         assert_eq!(program::check(&beyond), Err(8));
     }
     for inputs in [193, 194, 256, 448, 65_535] {
@@ -355,8 +355,8 @@ fn inputs_from_1_to_192_are_taken() {
         assert_eq!(program::check(&program), Err(3));
         let mut both = program.clone();
         both[0] = 15;
-        assert_eq!(program::check(&both), Err(3));
-        assert_eq!(program::check(&program[..13]), Err(1));
+        assert_eq!(program::check(&both), Err(4));
+        assert_eq!(program::check(&program[..15]), Err(1));
     }
 }
 
@@ -445,6 +445,7 @@ fn the_longest_compiled_program_runs() {
     let header = program::check(&program).unwrap();
     let sizes = (header.registers, header.inputs, header.outputs);
     assert_eq!((sizes, header.count), ((394, 192, 8), 178_509));
+    assert_eq!(header.rows, 128);
     let run = start(&program, &inputs, 394, 8, 178_509).unwrap();
     assert_eq!((run.finished, run.count), (true, 178_509));
     for lane in 0..64 {

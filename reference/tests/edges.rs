@@ -44,10 +44,10 @@ fn raw(length: usize, kind: usize, rows: usize, columns: usize, bytes: &[u8]) ->
     file
 }
 
-/// A program file with this header and these bytes after it.
-fn code(registers: usize, inputs: usize, outputs: usize, count: u32, bytes: &[u8]) -> Vec<u8> {
+/// A program file of one input, one output and one row, with these bytes after its header.
+fn code(registers: usize, count: u32, bytes: &[u8]) -> Vec<u8> {
     let mut file = Vec::new();
-    for value in [14, 16, registers, inputs, outputs] {
+    for value in [16, 16, registers, 1, 1, 1] {
         put(&mut file, value);
     }
     file.extend_from_slice(&count.to_le_bytes());
@@ -373,48 +373,56 @@ fn spent_has_its_least_and_its_most() {
 #[test]
 fn compile_needs_room_for_the_whole_program() {
     let file = file_of(&["1", "1"]);
-    assert_eq!(compile(&file, 113), Err(13));
-    assert_eq!(compile(&file, 114).unwrap().len(), 114);
+    assert_eq!(compile(&file, 115), Err(13));
+    assert_eq!(compile(&file, 116).unwrap().len(), 116);
     assert_eq!(compile(&file[..9], 0), Err(1));
     assert_eq!(compile(&file_of(&["1", "1", "1"]), 0), Err(6));
 }
 
 #[test]
 fn program_header_is_tried_first() {
-    let sound = code(1, 1, 1, 2, &[&ONES_0[..], &OUTPUT_0_0].concat());
+    let sound = code(1, 2, &[&ONES_0[..], &OUTPUT_0_0].concat());
     assert!(program::check(&sound).is_ok());
     let with = |at: usize, value: usize| {
         let mut file = sound.clone();
         file[at..at + 2].copy_from_slice(&(value as u16).to_le_bytes());
         program::check(&file).map(|_| ())
     };
-    assert_eq!(program::check(&sound[..13]), Err(1));
-    assert_eq!(program::check(&raw(14, 32, 1, 1, &[])), Err(2));
+    assert_eq!(program::check(&sound[..15]), Err(1));
+    assert_eq!(program::check(&raw(16, 32, 1, 1, &[])), Err(2));
     assert_eq!(with(2, 32), Err(2));
     // With 4 in its higher half, a count of 2 is 262,146.
-    for (at, least, most) in [(4, 0, 1_025), (6, 0, 193), (8, 0, 9), (12, 4, 65_535)] {
+    for (at, least, most) in [
+        (4, 0, 1_025),
+        (6, 0, 193),
+        (8, 0, 9),
+        (10, 0, 129),
+        (14, 4, 65_535),
+    ] {
         assert_eq!(with(at, least), Err(3));
         assert_eq!(with(at, most), Err(3));
     }
     for inputs in [128, 129, 191, 192] {
         assert_eq!(with(6, inputs), Ok(()));
     }
-    for length in [0, 13, 15, 16, 65_535] {
+    for length in [0, 14, 15, 17, 65_535] {
         assert_eq!(with(0, length), Err(4));
     }
     // 262,144 instructions are within the limits and one more is not.
     for within in [131_072, 131_073, 262_144] {
-        assert_eq!(program::check(&code(1, 1, 1, within, &[])), Err(1));
+        assert_eq!(program::check(&code(1, within, &[])), Err(1));
     }
-    assert_eq!(program::check(&code(1, 1, 1, 262_145, &[])), Err(3));
-    let mut both = code(0, 1, 1, 0, &[]);
-    both[0] = 15;
+    assert_eq!(program::check(&code(1, 262_145, &[])), Err(3));
+    // 4 is tried before 3 (02, order 10).
+    let mut both = code(0, 0, &[]);
     assert_eq!(program::check(&both), Err(3));
+    both[0] = 15;
+    assert_eq!(program::check(&both), Err(4));
 }
 
 #[test]
 fn instructions_are_tried_in_turn() {
-    let tried = |count: u32, bytes: &[u8]| program::check(&code(2, 1, 1, count, bytes)).map(|_| ());
+    let tried = |count: u32, bytes: &[u8]| program::check(&code(2, count, bytes)).map(|_| ());
     assert_eq!(tried(0, &[]), Err(10));
     assert_eq!(tried(0, &[0]), Err(4));
     assert_eq!(tried(1, &[]), Err(1));
@@ -449,21 +457,14 @@ fn instructions_are_tried_in_turn() {
 fn runs_try_the_program_then_position_then_words() {
     let program = translate(&Matrix::from_texts(&["1"])).encode();
     let header = program::check(&program).unwrap();
-    assert_eq!(
-        (
-            header.registers,
-            header.inputs,
-            header.outputs,
-            header.count
-        ),
-        (6, 1, 1, 9)
-    );
+    let sizes = (header.registers, header.inputs, header.outputs);
+    assert_eq!((sizes, header.rows, header.count), ((6, 1, 1), 1, 9));
     for budget in [0, 9, u32::MAX] {
         assert_eq!(start(&program[1..], &[], 0, 0, budget), Err(2));
         assert_eq!(start(&program, &[], 6, 1, budget), Err(13));
         assert_eq!(start(&program, &[1], 5, 1, budget), Err(13));
         assert_eq!(start(&program, &[1], 6, 0, budget), Err(13));
-        assert_eq!(resume(&program[..89], &[], &[], &[], 10, budget), Err(1));
+        assert_eq!(resume(&program[..91], &[], &[], &[], 10, budget), Err(1));
         assert_eq!(resume(&program, &[], &[], &[], 10, budget), Err(12));
         assert_eq!(resume(&program, &[], &[0; 6], &[0], 9, budget), Err(13));
     }
@@ -500,23 +501,23 @@ fn slice_tries_columns_strings_bits_and_words() {
 
 #[test]
 fn samples_of_output_words() {
-    assert_eq!(samples(&[], 64), Err(3));
-    assert_eq!(samples(&[0; 9], 0), Err(3));
-    assert_eq!(samples(&[0; 8], 63), Err(13));
-    assert_eq!(signed_samples(&[0; 9], 0, 0), Err(3));
-    assert_eq!(signed_samples(&[0; 8], 0, 63), Err(13));
+    assert_eq!(samples(1, &[], 64), Err(3));
+    assert_eq!(samples(128, &[0; 9], 0), Err(3));
+    assert_eq!(samples(128, &[0; 8], 63), Err(13));
+    assert_eq!(signed_samples(128, &[0; 9], 0, 0), Err(3));
+    assert_eq!(signed_samples(128, &[0; 8], 0, 63), Err(13));
     // Lane 0: 127. Lane 1: a miss with all else set. Lane 2: 0. Lane 3: 64. Others miss.
     let words = [
         0b1101, 0b0011, 0b0011, 0b0011, 0b0011, 0b0011, 0b0011, 0b1011,
     ];
-    let laid = samples(&words, 70).unwrap();
+    let laid = samples(128, &words, 70).unwrap();
     assert_eq!(laid[..5], [127, 255, 0, 64, 255]);
     assert_eq!(laid.len(), 64);
     assert_eq!(
-        signed_samples(&words, 0, 64).unwrap()[..5],
+        signed_samples(128, &words, 0, 64).unwrap()[..5],
         [127, 32_767, 0, 64, 32_767]
     );
-    let laid = signed_samples(&words, u64::MAX, 64).unwrap();
+    let laid = signed_samples(128, &words, u64::MAX, 64).unwrap();
     assert_eq!(laid[..5], [-127, 32_767, 0, -64, 32_767]);
 }
 
@@ -544,7 +545,7 @@ fn lister_lists_up_to_its_limit() {
     let listed = with_program_length(MOST_LISTED).unwrap();
     assert_eq!(translate(&listed).encode().len(), 65_536);
     let first = format!(
-        "394 {} 8 {}\n",
+        "394 {} 8 128 {}\n",
         listed.columns,
         translate(&listed).header.count
     );

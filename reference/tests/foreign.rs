@@ -13,13 +13,13 @@ use reference::record::put;
 use reference::tables::document_004;
 use refused::matrix_is_refused;
 
-/// Matrices whose files have 9, 10, 11 and 14 bytes, and more.
+/// Matrices whose files have 9, 10, 11 and 16 bytes, and more.
 fn matrices() -> Vec<Matrix> {
     vec![
         Matrix::from_texts(&["1"]),
         Matrix::from_texts(&["1", "1"]),
         Matrix::from_texts(&["10", "01", "01"]),
-        Matrix::from_texts(&["10000000001", "00100000000", "01011111111"]),
+        Matrix::from_texts(&["10000000001", "00100000000", "01011111110", "00000000001"]),
         document_004(),
     ]
 }
@@ -47,7 +47,7 @@ fn program_is_refused(file: &[u8], number: u32) {
 #[test]
 fn a_cut_program_is_foreign_to_the_matrix_reader() {
     for program in program_files() {
-        for length in [4, 7, 8, 13] {
+        for length in [4, 7, 8, 15] {
             matrix_is_refused(&program[..length], 2);
         }
         // Any other length, and the whole, too.
@@ -60,7 +60,7 @@ fn a_cut_program_is_foreign_to_the_matrix_reader() {
 #[test]
 fn a_cut_matrix_is_foreign_to_the_program_check() {
     for file in matrix_files() {
-        for length in 4..=file.len().min(13) {
+        for length in 4..=file.len().min(15) {
             program_is_refused(&file[..length], 2);
         }
         program_is_refused(&file, 2);
@@ -78,7 +78,7 @@ fn a_file_under_four_bytes_is_short() {
     // The third byte alone is no kind, whatever it holds.
     for low in 0..=255 {
         matrix_is_refused(&[9, 0, low], 1);
-        program_is_refused(&[14, 0, low], 1);
+        program_is_refused(&[16, 0, low], 1);
     }
 }
 
@@ -90,7 +90,7 @@ fn a_short_file_of_the_right_kind_is_short() {
         }
     }
     for program in program_files() {
-        for length in 4..=13 {
+        for length in 4..=15 {
             program_is_refused(&program[..length], 1);
         }
     }
@@ -111,7 +111,7 @@ const NO_KINDS: [usize; 12] = [
 ];
 
 /// A matrix with four bytes alone, under 8 bytes, shorter than its length field, whole; a program
-/// with four bytes alone, under 14 bytes, whole.
+/// with four bytes alone, under 16 bytes, whole.
 #[test]
 fn every_other_kind_is_foreign() {
     for kind in NO_KINDS.into_iter().chain([16]) {
@@ -126,10 +126,10 @@ fn every_other_kind_is_foreign() {
         matrix_is_refused(&record(&[9, kind, 1, 1], &[0x80]), 2);
     }
     for kind in NO_KINDS.into_iter().chain([32]) {
-        for length in [0, 14, 65_535] {
+        for length in [0, 16, 65_535] {
             program_is_refused(&record(&[length, kind], &[]), 2);
-            program_is_refused(&record(&[length, kind, 1, 1, 1, 0], &[0]), 2);
-            program_is_refused(&record(&[length, kind, 1, 1, 1, 0, 0], &[]), 2);
+            program_is_refused(&record(&[length, kind, 1, 1, 1, 1, 0], &[0]), 2);
+            program_is_refused(&record(&[length, kind, 1, 1, 1, 1, 0, 0], &[]), 2);
         }
     }
 }
@@ -162,28 +162,32 @@ fn checks_of_a_matrix_header_come_in_their_order() {
 #[test]
 fn checks_of_a_program_header_come_in_their_order() {
     // 1 for under four bytes before 2.
-    program_is_refused(&record(&[14, 32], &[])[..3], 1);
-    // 2 before 1 for under 14 bytes.
-    program_is_refused(&record(&[14, 32], &[]), 2);
-    program_is_refused(&record(&[14, 32, 1, 1, 1, 0], &[0]), 2);
-    program_is_refused(&record(&[15, 32, 0, 193, 9, 0], &[0]), 2);
-    // 1 before 3.
-    program_is_refused(&record(&[14, 16, 0], &[]), 1);
-    program_is_refused(&record(&[14, 16, 1_025, 193, 9, 0], &[0]), 1);
-    program_is_refused(&record(&[15, 16, 0, 193, 9, 0], &[0xff]), 1);
-    // 2 before 3, with nothing short.
-    program_is_refused(&record(&[15, 32, 0, 193, 9, 0, 65_535], &[]), 2);
-    // 3 before 4.
-    program_is_refused(&record(&[15, 16, 0, 1, 1, 0, 0], &[]), 3);
-    program_is_refused(&record(&[15, 16, 1, 193, 1, 0, 0], &[]), 3);
-    program_is_refused(&record(&[15, 16, 1, 1, 9, 0, 0], &[]), 3);
-    program_is_refused(&record(&[15, 16, 1, 1, 1, 0, 0], &[]), 4);
+    program_is_refused(&record(&[16, 32], &[])[..3], 1);
+    // 2 before 1 for under 16 bytes.
+    program_is_refused(&record(&[16, 32], &[]), 2);
+    program_is_refused(&record(&[16, 32, 1, 1, 1, 1, 0], &[0]), 2);
+    program_is_refused(&record(&[15, 32, 0, 193, 9, 129, 0], &[0]), 2);
+    // 1 before 4 and 3.
+    program_is_refused(&record(&[15, 16, 1], &[]), 1);
+    program_is_refused(&record(&[15, 16, 1, 1, 1, 1, 0], &[0]), 1);
+    program_is_refused(&record(&[16, 16, 1_025, 193, 9, 0, 0], &[0]), 1);
+    program_is_refused(&record(&[15, 16, 0, 193, 9, 129, 0], &[0xff]), 1);
+    // 2 before 4 and 3, with nothing short.
+    program_is_refused(&record(&[15, 32, 0, 193, 9, 129, 0, 65_535], &[]), 2);
+    // 4 before 3, which 02, order 10 says of a program's header alone.
+    program_is_refused(&record(&[15, 16, 1, 1, 1, 1, 0, 0], &[]), 4);
+    program_is_refused(&record(&[15, 16, 0, 1, 1, 1, 0, 0], &[]), 4);
+    program_is_refused(&record(&[15, 16, 0, 193, 9, 129, 0, 65_535], &[]), 4);
+    program_is_refused(&record(&[16, 16, 0, 1, 1, 1, 0, 0], &[]), 3);
+    program_is_refused(&record(&[16, 16, 1, 193, 1, 1, 0, 0], &[]), 3);
+    program_is_refused(&record(&[16, 16, 1, 1, 9, 1, 0, 0], &[]), 3);
+    program_is_refused(&record(&[16, 16, 1, 1, 1, 1, 0, 5], &[]), 3);
 }
 
 /// An instruction is no first record: of one that is cut and has no kind, 1 comes before 7.
 #[test]
 fn an_instruction_is_tried_for_shortness_first() {
-    let one = |instruction: &[u8]| record(&[14, 16, 1, 1, 1, 1, 0], instruction);
+    let one = |instruction: &[u8]| record(&[16, 16, 1, 1, 1, 1, 1, 0], instruction);
     program_is_refused(&one(&[6, 0, 8]), 1);
     program_is_refused(&one(&[6, 0, 8, 0]), 1);
     program_is_refused(&one(&[6, 0, 8, 0, 0]), 1);
@@ -209,7 +213,7 @@ const MATRIX: Sort = Sort {
 
 const PROGRAM: Sort = Sort {
     kind: 16,
-    is_short: |file| file.len() < 14,
+    is_short: |file| file.len() < 16,
     refusal: |file| program::check(file).err(),
 };
 
@@ -257,7 +261,7 @@ fn beginnings() -> [Vec<u8>; 4] {
     let (matrix, program) = (document_004().encode(), program_files().remove(0));
     [matrix, program, vec![0x00; 40], vec![0xff; 40]].map(|mut file| {
         file.truncate(40);
-        file[10..14].fill(0);
+        file[12..16].fill(0);
         file
     })
 }
@@ -278,16 +282,16 @@ fn cut_files() -> Vec<Vec<u8>> {
 
 /// 14 kinds, 45 length fields, 4 beginnings and 41 lengths. Of length fields and lengths 180 pairs
 /// have under four bytes; of the others, a matrix is short in 840 pairs and not in 825, and a
-/// program in 450 and not in 1,215.
+/// program in 540 and not in 1,125.
 #[test]
 fn only_foreign_short_files_change() {
     let matrices = [13 * 4 * 840, 14 * 4 * 180 + 4 * 840, 13 * 4 * 825, 4 * 825];
     assert_eq!(MATRIX.only_these_change(cut_files()), matrices);
     let programs = [
-        13 * 4 * 450,
-        14 * 4 * 180 + 4 * 450,
-        13 * 4 * 1_215,
-        4 * 1_215,
+        13 * 4 * 540,
+        14 * 4 * 180 + 4 * 540,
+        13 * 4 * 1_125,
+        4 * 1_125,
     ];
     assert_eq!(PROGRAM.only_these_change(cut_files()), programs);
 }
@@ -298,8 +302,8 @@ fn only_foreign_short_files_change() {
 fn only_foreign_short_files_change_whatever_their_kind() {
     for sort in [MATRIX, PROGRAM] {
         let files = (0..=65_535).flat_map(|kind| {
-            let whole = record(&[14, kind, 1, 1, 1, 0, 0], &[]);
-            [3, 4, 7, 8, 13, 14].map(|length| whole[..length].to_vec())
+            let whole = record(&[16, kind, 1, 1, 1, 1, 0, 0], &[]);
+            [3, 4, 7, 8, 15, 16].map(|length| whole[..length].to_vec())
         });
         let met = [4 * 65_535, 65_536 + 4, 65_535, 1];
         assert_eq!(sort.only_these_change(files.collect()), met);

@@ -5,7 +5,7 @@ use reference::compiler::{compile, translate};
 use reference::cumulative::{export, import, lookup, table_of};
 use reference::draws::{draw, draw_signed};
 use reference::extremes::{longest_program, longest_program_of};
-use reference::lanes::{drawn, samples, signed_samples, slice};
+use reference::lanes::{samples, signed_samples, slice};
 use reference::lent;
 use reference::machine::{resume, start};
 use reference::matrix::{check, decode, read, write, Matrix};
@@ -41,6 +41,15 @@ fn all_strings(columns: usize) -> impl Iterator<Item = Vec<u8>> {
     (0..1u64 << columns).map(move |number| Natural::from(number).bits(columns))
 }
 
+/// What a lane of the output words spells where its bit of output 0 is set, whatever the rows are: what
+/// 01 says that a program gives.
+fn spelled(outputs: &[u64], lane: usize) -> Option<usize> {
+    let bit = |word: &u64| (word >> lane & 1) as usize;
+    let value_bits = outputs[1..].iter().rev();
+    let number = value_bits.fold(0, |number, word| 2 * number + bit(word));
+    (bit(&outputs[0]) == 1).then_some(number)
+}
+
 /// What the compiled program gives in one lane that carries the string, with anything in the
 /// others.
 fn given(random: &mut Random, program: &[u8], bits: &[u8]) -> Option<usize> {
@@ -56,7 +65,7 @@ fn given_in(random: &mut Random, lane: usize, program: &[u8], bits: &[u8]) -> Op
         .collect();
     let run = start(program, &words, 1_024, 8, u32::MAX).unwrap();
     assert!(run.finished);
-    drawn(&run.outputs, lane).map(usize::from)
+    spelled(&run.outputs, lane)
 }
 
 /// Demands 2 and 3 on one matrix: the program gives what the walk gives, each row as often as its
@@ -860,6 +869,7 @@ fn signed_lists_build_as_plain_ones_of_doubled_weights() {
 /// them: compiled, sliced, started, and read with the sign.
 fn signed_draws(file: &[u8], columns: usize) -> Vec<i16> {
     let program = compile(file, usize::MAX).unwrap();
+    let rows = program::check(&program).unwrap().rows;
     let strings: Vec<Vec<u8>> = all_strings(columns).map(|bits| pack(&bits)).collect();
     let lanes = strings.iter().cycle().take(strings.len().max(64));
     let packed: Vec<u8> = lanes.flatten().copied().collect();
@@ -868,7 +878,7 @@ fn signed_draws(file: &[u8], columns: usize) -> Vec<i16> {
         let words = slice(columns, batch, columns).unwrap();
         let run = start(&program, &words, 1_024, 8, u32::MAX).unwrap();
         for sign in [0, u64::MAX] {
-            let read = signed_samples(&run.outputs, sign, 64).unwrap();
+            let read = signed_samples(rows, &run.outputs, sign, 64).unwrap();
             samples.extend(&read[..strings.len().min(64)]);
         }
     }
@@ -975,6 +985,7 @@ fn compiled_programs_are_sound() {
         assert_eq!(file.len(), translated.length());
         assert_eq!(program::decode(&file), Ok(translated.clone()));
         assert_eq!(translated.header.inputs, matrix.columns);
+        assert_eq!(translated.header.rows, matrix.rows);
         assert!(translated.header.count <= 17 + 962 * matrix.columns);
     }
 }
@@ -984,7 +995,7 @@ fn draws_are_walks() {
     let mut random = Random::new(17);
     for _ in 0..40 {
         let matrix = random::any_matrix(&mut random);
-        let (columns, file) = (matrix.columns, matrix.encode());
+        let (rows, columns, file) = (matrix.rows, matrix.columns, matrix.encode());
         let program = compile(&file, usize::MAX).unwrap();
         let strings = random::strings(&mut random, &matrix);
         let sign = random.word();
@@ -992,8 +1003,9 @@ fn draws_are_walks() {
         let with_signs = draw_signed(&program, &strings, sign, 64);
         let words = slice(columns, &strings, columns).unwrap();
         let run = start(&program, &words, 1_024, 8, u32::MAX).unwrap();
-        assert_eq!(samples(&run.outputs, 64).as_ref(), Ok(&plain));
-        assert_eq!(signed_samples(&run.outputs, sign, 64), with_signs);
+        assert_eq!(samples(rows, &run.outputs, 64).as_ref(), Ok(&plain));
+        let read = signed_samples(rows, &run.outputs, sign, 64);
+        assert_eq!(read, with_signs);
         let with_signs = with_signs.unwrap();
         for (lane, string) in strings.chunks(columns.div_ceil(8)).enumerate() {
             let row = walk(&file, string).unwrap().row;
@@ -1063,10 +1075,10 @@ fn lent_memory_beyond_the_result_is_untouched() {
     let file = Matrix::from_texts(&["1", "1"]).encode();
     let mut program = [0xa5; 120];
     let mut length = 7;
-    assert_eq!(lent::compile(&file, &mut program[..113], &mut length), 13);
+    assert_eq!(lent::compile(&file, &mut program[..115], &mut length), 13);
     assert_eq!((program, length), ([0xa5; 120], 7));
     assert_eq!(lent::compile(&file, &mut program, &mut length), 0);
-    assert_eq!((length, &program[114..]), (114, &[0xa5; 6][..]));
+    assert_eq!((length, &program[116..]), (116, &[0xa5; 4][..]));
 
     let start = |program: &[u8]| {
         let (mut registers, mut outputs) = ([9; 12], [9; 3]);
@@ -1086,7 +1098,7 @@ fn lent_memory_beyond_the_result_is_untouched() {
     assert_eq!(start(&program), (4, [9; 12], [9; 3], (8, 8, true)));
     let registers = [1, 0, 0, 0, u64::MAX, 0, 0, 0, 0, 0, 9, 9];
     let run = (4, 4, false);
-    assert_eq!(start(&program[..114]), (0, registers, [0, 0, 9], run));
+    assert_eq!(start(&program[..116]), (0, registers, [0, 0, 9], run));
 }
 
 /// The numbers that a walk and `spent` answer with are set by a result and kept by a refusal.

@@ -19,7 +19,7 @@ fn lines(scale: usize) -> Vec<String> {
 fn the_small_set_can_be_stored() {
     let lines = lines(1);
     let size: usize = lines.iter().map(String::len).sum();
-    assert!(size < 790_000, "{size} bytes");
+    assert!(size < 830_000, "{size} bytes");
     assert!(lines.len() > 500, "{} lines", lines.len());
 }
 
@@ -105,18 +105,18 @@ fn foreign_short_files_are_given_to_every_operation() {
         });
         assert!(found, "{task} {file} .. = {number}");
     };
-    // 13 bytes of the program that 01 lists, and of a matrix of three rows and eleven columns.
-    let program = "0e0010000a00010002000c0000";
-    let matrix = "0e00200003000b00802020005f";
+    // 15 bytes of the program that 01 lists, and of a matrix of four rows and eleven columns.
+    let program = "100010000a000100020002000c0000";
+    let matrix = "1000200004000b00802020005fc000";
     let of_matrix = ["1", "4", "5", "e", "10", "16", "18"].map(|task| (task, program));
     let of_program = ["6", "7", "8", "c", "d"].map(|task| (task, matrix));
     for (task, foreign) in of_matrix.into_iter().chain(of_program) {
         answered(task, &foreign[..2 * 3], "1");
-        for bytes in [4, 7, 8, 13] {
+        for bytes in [4, 7, 8, 15] {
             answered(task, &foreign[..2 * bytes], "2");
         }
     }
-    for bytes in 4..=13 {
+    for bytes in 4..=15 {
         answered("1", &program[..2 * bytes], "2");
         answered("6", &matrix[..2 * bytes], "2");
     }
@@ -175,7 +175,7 @@ fn weights_are_built_for_both_uses() {
 
 /// The bytes of the program of so many rows that are set in the last of 7 columns, by 01's list.
 fn program_length(rows: usize, bits: usize) -> usize {
-    let (mut bytes, mut live) = (14 + 6 * (2 + bits) + 8 * (1 + bits), 1);
+    let (mut bytes, mut live) = (16 + 6 * (2 + bits) + 8 * (1 + bits), 1);
     for ones in [0, 0, 0, 0, 0, 0, rows] {
         let after = rows.min(2 * live - ones);
         bytes += 2 * 8 + 10 * (2 * live + after);
@@ -206,6 +206,147 @@ fn rows_of_every_case_are_compiled_and_drawn() {
             found(format!("11 {file} "), format!(" = 0 {samples} "));
         }
     }
+}
+
+/// ONES 0 and every output from register 0, in a header that says this of rows and outputs, by hand.
+fn filled_program(rows: usize, outputs: usize) -> String {
+    let count = 1 + outputs;
+    let header = format!("10001000010001000{outputs:x}00{rows:02x}000{count:x}000000");
+    let output = |i: usize| format!("080007000{i:x}000000");
+    let code: String = (0..outputs).map(output).collect();
+    format!("{header}060001000000{code}")
+}
+
+/// 02, order 10: in a header the fewest and the most rows of each case, with as many outputs as they
+/// take, and with as many as the next case has; rows outside; and the header of 14 bytes.
+#[test]
+fn rows_are_met_in_headers() {
+    let lines = lines(1);
+    let met = |line: String| assert!(lines.contains(&format!("{line}\n")), "{line}");
+    for (fewest, most, bits) in VALUE_BIT_CASES {
+        let outputs = bits + 1;
+        for rows in [fewest, most] {
+            let program = filled_program(rows, outputs);
+            let count = 1 + outputs;
+            met(format!(
+                "6 {program} = 0 1 1 {outputs:x} {rows:x} {count:x}"
+            ));
+        }
+        met(format!("6 {} = 3", filled_program(fewest, bits)));
+        met(format!("6 {} = 3", filled_program(most, bits + 2)));
+    }
+    met(format!("6 {} = 3", filled_program(0, 1)));
+    for (task, lent) in [
+        ("6", ""),
+        ("7", " - 0 0 0"),
+        ("8", " - - - 63 0"),
+        ("c", " - 0"),
+        ("d", " - 0 0"),
+    ] {
+        for (rows, outputs) in [(129, 8), (3, 2)] {
+            let program = filled_program(rows, outputs);
+            met(format!("{task} {program}{lent} = 3"));
+        }
+        let old = "0e001000010001000100020000000600010000000800070000000000";
+        met(format!("{task} {old}{lent} = 4"));
+    }
+    // All is at fault: 4 before 3, and 1 before both; and so it is with the header of 14 bytes alone.
+    let rest = "0000c10009008100ffffff";
+    for length in ["0000", "0e00", "0f00", "1100", "ffff"] {
+        met(format!("6 {length}1000{rest}ff = 4"));
+    }
+    met(format!("6 10001000{rest}ff = 3"));
+    met(format!("6 0e001000{rest} = 1"));
+    met(format!("6 0e002000{rest} = 2"));
+    met("6 0e00100001000100010002000000 = 1".to_string());
+}
+
+/// Words in which lane j spells 64 + j in so many bits.
+fn words_in_turn(bits: usize) -> String {
+    let words = [
+        "ffffffffffffffff",
+        "aaaaaaaaaaaaaaaa",
+        "cccccccccccccccc",
+        "f0f0f0f0f0f0f0f0",
+        "ff00ff00ff00ff00",
+        "ffff0000ffff0000",
+        "ffffffff00000000",
+        "ffffffffffffffff",
+    ];
+    words[..=bits].concat()
+}
+
+/// 02, order 10: samples of the fewest and the most rows of each case, by hand, plain and with both
+/// signs; and rows that fewer bits would take for sound.
+#[test]
+fn samples_are_read_with_rows() {
+    let lines = lines(1);
+    let met = |line: String| assert!(lines.contains(&format!("{line}\n")), "{line}");
+    for (fewest, most, bits) in VALUE_BIT_CASES {
+        for rows in [fewest, most] {
+            let given = format!("{rows:x} {}", words_in_turn(bits));
+            let numbers: Vec<usize> = (64..128).map(|number| number % (1 << bits)).collect();
+            let plain = |number: &usize| match *number {
+                number if number < rows => format!("{number:02x}"),
+                _ => "ff".to_string(),
+            };
+            let samples: String = numbers.iter().map(plain).collect();
+            met(format!("a {given} 40 = 0 {samples}"));
+            // Odd lanes of the first half have their sign set, and even ones of the second.
+            let negated = |lane: usize| (lane < 32) == (lane % 2 == 1);
+            let signed = |lane: usize| match (numbers[lane], negated(lane)) {
+                (number, _) if number >= rows => "7fff".to_string(),
+                (number, false) => format!("{number:04x}"),
+                (number, true) => format!("{:04x}", (65_536 - number) % 65_536),
+            };
+            let samples: String = (0..64).map(signed).collect();
+            met(format!("b {given} 55555555aaaaaaaa 40 = 0 {samples}"));
+        }
+    }
+    let word = "55555555aaaaaaaa";
+    for (rows, words) in [
+        ("0", 1),
+        ("81", 8),
+        ("81", 9),
+        ("101", 1),
+        ("180", 8),
+        ("10001", 1),
+        ("100000001", 1),
+        ("ffffffffffffffff", 8),
+    ] {
+        let words = word.repeat(words);
+        met(format!("a {rows} {words} 40 = 3"));
+        met(format!("b {rows} {words} {word} 40 = 3"));
+    }
+    // Of 5 rows four words are 13 where 63 samples are lent, and any other number is 3.
+    met("b 5 - 0 3f = 3".to_string());
+    for words in 1..=10 {
+        let number = if words == 4 { "d" } else { "3" };
+        met(format!("b 5 {} 0 3f = {number}", word.repeat(words)));
+    }
+}
+
+/// Programs that hand their inputs through, the first as the hit, are drawn: a number that is not below
+/// their rows is a miss.
+#[test]
+fn numbers_that_are_no_rows_are_drawn_as_misses() {
+    let lines = lines(1);
+    let pair = |i: usize| format!("0800030000000{i:x}00080007000{i:x}000000");
+    let code: String = (0..4).map(pair).collect();
+    let program = format!("10001000010004000400050008000000{code}");
+    // 1, then the number, lowest bit first.
+    let numbers = ["80", "c0", "a0", "e0", "90", "d0", "b0", "f0"];
+    let strings = numbers.concat().repeat(8);
+    let samples = "0001020304ffffff".repeat(8);
+    let line = format!("c {program} {strings} 40 = 0 {samples}\n");
+    assert!(lines.contains(&line), "{line}");
+    let half = |signs: [i16; 2]| {
+        let samples = [0, 1, 2, 3, 4].map(|n| format!("{:04x}", n * signs[n as usize % 2]));
+        format!("{}7fff7fff7fff", samples.concat()).repeat(4)
+    };
+    let samples = format!("{}{}", half([1, -1]), half([-1, 1]));
+    let line = format!("d {program} {strings} 55555555aaaaaaaa 40 = 0 {samples}\n");
+    assert!(lines.contains(&line), "{line}");
 }
 
 /// This line is among the vectors of task 18.
@@ -334,14 +475,14 @@ fn program_headers_up_to_the_limits_are_met() {
     let lines = lines(1);
     let met = |line: String| assert!(lines.contains(&format!("{line}\n")), "{line}");
     for (inputs, last, answer) in [
-        ("8000", "7f00", "0 1 80 1 2"),
-        ("8100", "8000", "0 1 81 1 2"),
+        ("8000", "7f00", "0 1 80 1 1 2"),
+        ("8100", "8000", "0 1 81 1 1 2"),
         ("8100", "8100", "8"),
-        ("c000", "bf00", "0 1 c0 1 2"),
+        ("c000", "bf00", "0 1 c0 1 1 2"),
         ("c000", "c000", "8"),
         ("c100", "c000", "3"),
     ] {
-        let header = format!("0e0010000100{inputs}010002000000");
+        let header = format!("100010000100{inputs}0100010002000000");
         let code = format!("080003000000{last}0800070000000000");
         met(format!("6 {header}{code} = {answer}"));
     }
@@ -351,7 +492,7 @@ fn program_headers_up_to_the_limits_are_met() {
         ("00000400", "1"),
         ("01000400", "3"),
     ] {
-        met(format!("6 0e001000010001000100{count} = {answer}"));
+        met(format!("6 100010000100010001000100{count} = {answer}"));
     }
 }
 
@@ -360,7 +501,7 @@ fn program_headers_up_to_the_limits_are_met() {
 /// instructions are there.
 fn long_program(inputs: &str, last: &str, count: &str, there: usize) -> String {
     let outputs: String = (0..8).map(|i| format!("08000700{i:02x}00ff03")).collect();
-    let first = format!("0e0010000004{inputs}0800{count}08000300ff03{last}");
+    let first = format!("100010000004{inputs}08008000{count}08000300ff03{last}");
     format!("{first} 08000400ff03ff03 {:x} {outputs}", there - 9)
 }
 
@@ -368,12 +509,12 @@ fn long_program(inputs: &str, last: &str, count: &str, there: usize) -> String {
 fn instructions_up_to_the_limit_are_met() {
     let lines = lines(1);
     for (count, there, answer) in [
-        ("00000400", 262_144, "0 400 c0 8 40000"),
+        ("00000400", 262_144, "0 400 c0 8 80 40000"),
         ("00000400", 262_143, "1"),
         ("00000400", 262_145, "4"),
         ("01000400", 262_145, "3"),
         ("01000400", 262_144, "3"),
-        ("01000200", 131_073, "0 400 c0 8 20001"),
+        ("01000200", 131_073, "0 400 c0 8 80 20001"),
     ] {
         let program = long_program("c000", "bf00", count, there);
         let line = format!("13 {program} = {answer}\n");
@@ -544,7 +685,7 @@ const SIZES: [(&str, usize, usize, u64); 53] = [
     ("3", 1, 8, 129),
     ("3", 4, 0, 4_096),
     ("4", 2, 2, 25),
-    ("5", 2, 0, 2_621_454),
+    ("5", 2, 0, 2_621_456),
     ("7", 2, 16, 192),
     ("7", 3, 0, 16),
     ("7", 4, 0, 10),
@@ -553,10 +694,10 @@ const SIZES: [(&str, usize, usize, u64); 53] = [
     ("8", 4, 16, 10),
     ("9", 2, 2, 1_536),
     ("9", 3, 0, 193),
-    ("a", 1, 16, 10),
-    ("a", 2, 0, 65),
-    ("b", 1, 16, 10),
-    ("b", 3, 0, 65),
+    ("a", 2, 16, 10),
+    ("a", 3, 0, 65),
+    ("b", 2, 16, 10),
+    ("b", 4, 0, 65),
     ("c", 3, 0, 65),
     ("d", 4, 0, 65),
     ("e", 2, 2, 1_536),

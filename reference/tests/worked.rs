@@ -1,7 +1,7 @@
 //! 01, "Checked by hand": every case, with the answers that stand there. 02, by hand: order 1, the
 //! columns that these walks use; order 2, results of four samples; order 4, cumulative tables;
 //! order 5, weights for signed use; order 6, the value bits of every number of rows; order 7, strings
-//! for rows; order 9, signers that draw from one buffer.
+//! for rows; order 9, signers that draw from one buffer; order 10, the listing in 01 with its rows.
 
 use reference::compiler::{compile, translate, value_bits, VALUE_BIT_CASES};
 use reference::cumulative::{export, import, lookup, sums, Exported};
@@ -223,7 +223,7 @@ fn twice_a_weight_may_have_33_bits() {
 
 #[test]
 fn listing() {
-    let text = "10 1 2 12
+    let text = "10 1 2 2 12
 0 ONES 4
 1 ZERO 2
 2 ZERO 3
@@ -258,17 +258,12 @@ fn bytes_of_the_listed_program() {
         &[8, 0, 7, 0, 0, 0, 2, 0],
         &[8, 0, 7, 0, 1, 0, 3, 0],
     ];
-    let mut file = vec![14, 0, 16, 0, 10, 0, 1, 0, 2, 0, 12, 0, 0, 0];
+    let mut file = vec![16, 0, 16, 0, 10, 0, 1, 0, 2, 0, 2, 0, 12, 0, 0, 0];
     file.extend(instructions.concat());
     assert_eq!(listed_program(), file);
     let header = program::check(&file).unwrap();
-    let numbers = (
-        header.registers,
-        header.inputs,
-        header.outputs,
-        header.count,
-    );
-    assert_eq!(numbers, (10, 1, 2, 12));
+    let sizes = (header.registers, header.inputs, header.outputs);
+    assert_eq!((sizes, header.rows, header.count), ((10, 1, 2), 2, 12));
 }
 
 /// 02, order 6: the cases go through 1 to 128 rows in turn. In each, m - 1 is below 2^k and, where k
@@ -287,6 +282,7 @@ fn value_bits_by_cases() {
             let header = program::check(&program).unwrap();
             assert_eq!(header.registers, 3 + bits + 3 * m);
             assert_eq!(header.outputs, 1 + bits);
+            assert_eq!(header.rows, m);
         }
     }
     assert_eq!(rows.next(), None);

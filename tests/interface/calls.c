@@ -59,9 +59,10 @@ SAME_TYPE(compile);
 
 /* ---- program files ---- */
 
-uint32_t through_check(const uint8_t *program, size_t program_length, size_t *registers, size_t *inputs, size_t *outputs, uint32_t *count)
+uint32_t through_check(const uint8_t *program, size_t program_length, size_t *registers, size_t *inputs, size_t *outputs, size_t *rows,
+                       uint32_t *count)
 {
-    return corkhollow_check(program, program_length, registers, inputs, outputs, count);
+    return corkhollow_check(program, program_length, registers, inputs, outputs, rows, count);
 }
 SAME_TYPE(check);
 
@@ -91,15 +92,16 @@ uint32_t through_slice(size_t columns, const uint8_t *strings, size_t strings_le
 }
 SAME_TYPE(slice);
 
-uint32_t through_samples(const uint64_t *outputs, size_t outputs_length, uint8_t *samples, size_t samples_length)
+uint32_t through_samples(size_t rows, const uint64_t *outputs, size_t outputs_length, uint8_t *samples, size_t samples_length)
 {
-    return corkhollow_samples(outputs, outputs_length, samples, samples_length);
+    return corkhollow_samples(rows, outputs, outputs_length, samples, samples_length);
 }
 SAME_TYPE(samples);
 
-uint32_t through_signed_samples(const uint64_t *outputs, size_t outputs_length, uint64_t sign, int16_t *samples, size_t samples_length)
+uint32_t through_signed_samples(size_t rows, const uint64_t *outputs, size_t outputs_length, uint64_t sign, int16_t *samples,
+                                size_t samples_length)
 {
-    return corkhollow_signed_samples(outputs, outputs_length, sign, samples, samples_length);
+    return corkhollow_signed_samples(rows, outputs, outputs_length, sign, samples, samples_length);
 }
 SAME_TYPE(signed_samples);
 

@@ -3,7 +3,7 @@
 #include <string.h>
 
 static uint8_t matrix[CORKHOLLOW_MOST_MATRIX_BYTES], program[CORKHOLLOW_MOST_PROGRAM_BYTES];
-static size_t matrix_length, program_length, n_columns, n_registers, n_inputs, n_outputs;
+static size_t matrix_length, program_length, n_columns, n_registers, n_inputs, n_outputs, n_rows;
 static uint64_t sliced[CORKHOLLOW_COLUMNS], registers[CORKHOLLOW_REGISTERS], outputs[CORKHOLLOW_OUTPUTS];
 static uint8_t samples[CORKHOLLOW_LANES];
 static int16_t signed_samples[CORKHOLLOW_LANES];
@@ -37,10 +37,12 @@ static void slice(const struct batch *b) { refused |= corkhollow_slice(n_columns
 /* The same strings with the last bit of each spare: it is set in some batches, which are then refused. */
 static void slice_spare(const struct batch *b) { corkhollow_slice(n_columns - 1, b->strings, b->strings_length, sliced, n_columns); }
 
-static void read_samples(const struct batch *b) { refused |= corkhollow_samples(b->outputs, n_outputs, samples, CORKHOLLOW_LANES); }
+static void read_samples(const struct batch *b) {
+    refused |= corkhollow_samples(n_rows, b->outputs, n_outputs, samples, CORKHOLLOW_LANES);
+}
 
 static void read_signed(const struct batch *b) {
-    refused |= corkhollow_signed_samples(b->outputs, n_outputs, b->sign, signed_samples, CORKHOLLOW_LANES);
+    refused |= corkhollow_signed_samples(n_rows, b->outputs, n_outputs, b->sign, signed_samples, CORKHOLLOW_LANES);
 }
 
 static void draw(const struct batch *b) {
@@ -102,12 +104,12 @@ static bool table_made(size_t columns) {
 }
 
 bool program_made(size_t columns) {
-    static const uint32_t weights[] = {4, 3, 2, 1};
+    static const uint32_t weights[] = {5, 4, 3, 2, 1};
     uint32_t count;
     n_columns = columns;
-    if (corkhollow_build(weights, 4, columns, false, matrix, sizeof matrix, &matrix_length)) return false;
+    if (corkhollow_build(weights, 5, columns, false, matrix, sizeof matrix, &matrix_length)) return false;
     if (corkhollow_compile(matrix, matrix_length, program, sizeof program, &program_length)) return false;
-    if (corkhollow_check(program, program_length, &n_registers, &n_inputs, &n_outputs, &count)) return false;
+    if (corkhollow_check(program, program_length, &n_registers, &n_inputs, &n_outputs, &n_rows, &count)) return false;
     for (int i = 0; i < OPERATIONS; i++) {
         if (operations[i].result == outputs) operations[i].size = n_outputs * sizeof *outputs;
         if (operations[i].result == sliced) operations[i].size = n_columns * sizeof *sliced;
@@ -173,6 +175,18 @@ void random_batch(struct batch *b) {
     fill_numbers(b, next_random());
     b->sign = next_random();
     complete(b);
+}
+
+void beyond_batch(struct batch *b) {
+    random_batch(b);
+    memset(b->outputs, 0xff, sizeof b->outputs);
+}
+
+size_t misses_read(const struct batch *b) {
+    size_t many = 0;
+    read_samples(b);
+    for (int j = 0; j < CORKHOLLOW_LANES; j++) many += samples[j] == CORKHOLLOW_MISS;
+    return many;
 }
 
 size_t sample_of_hit(const struct batch *b) {

@@ -33,8 +33,9 @@ struct operation {
 extern struct operation operations[OPERATIONS];
 
 /*
- * Makes the program of a table of which few strings miss, and a cumulative table of ROWS rows, all alike, of as many columns or of the most
- * that it can have, of which few numbers miss. Batches and operations are of these columns from then on.
+ * Makes the program of a table of which few strings miss, whose outputs can spell numbers that are not below its rows, and a cumulative
+ * table of ROWS rows, all alike, of as many columns or of the most that it can have, of which few numbers miss. Batches and operations are
+ * of these columns from then on.
  */
 enum { ROWS = 127 };
 bool program_made(size_t columns);
@@ -46,6 +47,12 @@ bool program_made(size_t columns);
 void missing_batch(struct batch *);
 void zero_batch(struct batch *);
 void random_batch(struct batch *);
+
+/* Any batch, but for its outputs: every lane hits, and spells a number that is not below the program's rows, which is a miss. */
+void beyond_batch(struct batch *);
+
+/* How many samples that are read off the outputs of a batch are misses. */
+size_t misses_read(const struct batch *);
 
 /* The samples that a batch's numbers are looked up as. */
 size_t sample_of_hit(const struct batch *);

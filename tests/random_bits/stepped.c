@@ -1,13 +1,14 @@
 /*
  * Steps each operation on batches that miss in all lanes and that hit in all, whose lists of signed samples have misses alone, none or
- * some, and whose numbers to look up give the last sample, the first or any. One that does not choose by the random bits, or chooses only
- * whether it refuses or misses, takes as many machine instructions for each of them, and one that does is seen to.
+ * some, and whose numbers to look up give the last sample, the first or any; and on one whose outputs spell numbers not below the rows. One
+ * that does not choose by the random bits, or chooses only whether it refuses or misses, takes as many machine instructions for each of
+ * them, and one that does is seen to.
  */
 #include "operations.h"
 
 #include <stdio.h>
 
-enum { BATCHES = 3, COLUMNS = 24 };
+enum { BATCHES = 4, COLUMNS = 24 };
 
 /* The machine instructions for each batch; false where no process can be stepped. */
 static bool counted(run *f, const struct batch *batches, long *counts) {
@@ -37,7 +38,13 @@ static bool are_numbers_as_meant(const struct batch *batches) {
            batches[0].miss > batches[2].miss && batches[2].miss > batches[1].miss;
 }
 
-/* The strings of the first batch miss, and those of the others hit; of the entries of the lists all miss, then none, then some. */
+/* Read off the outputs, all lanes of the first batch miss, and of the last, where the hits are all set; and none of the others. */
+static bool are_outputs_as_meant(const struct batch *batches) {
+    return misses_read(&batches[0]) == CORKHOLLOW_LANES && misses_read(&batches[1]) == 0 && misses_read(&batches[2]) == 0 &&
+           misses_read(&batches[3]) == CORKHOLLOW_LANES && !~batches[3].outputs[0];
+}
+
+/* The strings of the first batch miss, and those of the next two hit; of the entries of the lists all miss, then none, then some. */
 static bool are_as_meant(const struct batch *batches) {
     int all = LISTS * CORKHOLLOW_LANES, some = misses(&batches[2]);
     return !batches[0].outputs[0] && !~batches[1].outputs[0] && !~batches[2].outputs[0] && misses(&batches[0]) == all &&
@@ -64,8 +71,11 @@ int main(void) {
     missing_batch(&batches[0]);
     zero_batch(&batches[1]);
     random_batch(&batches[2]);
-    if (!are_as_meant(batches) || !are_numbers_as_meant(batches)) return printf("the batches are not as meant\n"), 1;
-    printf("%-18s %9s %9s %9s\n", "machine instr.", "all miss", "all hit", "any");
+    beyond_batch(&batches[3]);
+    if (!are_as_meant(batches) || !are_outputs_as_meant(batches) || !are_numbers_as_meant(batches)) {
+        return printf("the batches are not as meant\n"), 1;
+    }
+    printf("%-18s %9s %9s %9s %9s\n", "machine instr.", "all miss", "all hit", "any", "beyond");
     for (int i = 0; i < OPERATIONS; i++) {
         if (!counted(operations[i].run, batches, counts)) return printf("random_bits: SKIPPED: no process can be stepped here\n"), 0;
         if (!as_it_must(&operations[i], counts)) return 1;

@@ -24,6 +24,7 @@ const HEADER: Header = Header {
     registers: 14,
     inputs: 2,
     outputs: 3,
+    rows: 3,
     count: 21,
 };
 
@@ -55,6 +56,8 @@ pub fn all() -> Checked {
     must("check", corkhollow::check(program) == Ok(HEADER))?;
     in_one_call(program)?;
     in_parts(program)?;
+    headers(program)?;
+    beyond_the_rows()?;
     a_miss()?;
     wide_bells()?;
     cumulative_tables()?;
@@ -191,10 +194,10 @@ fn in_parts(program: &[u8]) -> Checked {
     let wanted = [u64::MAX, 0x8888_8888_8888_8888, 0x4444_4444_4444_4444];
     must("resume", outputs == wanted)?;
     let mut samples = [7; LANES];
-    let read = corkhollow::samples(&outputs, &mut samples);
+    let read = corkhollow::samples(3, &outputs, &mut samples);
     must("samples", read == Ok(()) && samples == plain())?;
     let mut samples = [7; LANES];
-    let read = corkhollow::signed_samples(&outputs, SIGN, &mut samples);
+    let read = corkhollow::signed_samples(3, &outputs, SIGN, &mut samples);
     must("signed_samples", read == Ok(()) && samples == signed())
 }
 
@@ -204,6 +207,80 @@ fn run(position: u32, count: u32, finished: bool) -> Run {
         count,
         finished,
     }
+}
+
+/// 02, order 10: the header is length 16, kind 16, registers, inputs, outputs, rows and the count. Of three outputs 3 and 4 are the rows.
+/// Another length is 4, whatever the rows are; then rows outside or with other outputs are 3; and 15 bytes are 1.
+fn headers(program: &[u8]) -> Checked {
+    let header = [16, 0, 16, 0, 14, 0, 2, 0, 3, 0, 3, 0, 21, 0, 0, 0];
+    must("compile", program[..16] == header)?;
+    let mut file = [0; 512];
+    let file = &mut file[..program.len()];
+    file.copy_from_slice(program);
+    file[10] = 4;
+    let header = Header { rows: 4, ..HEADER };
+    must("check", corkhollow::check(file) == Ok(header))?;
+    for (length, rows, number) in [
+        (14, 3, 4),
+        (14, 0, 4),
+        (17, 129, 4),
+        (16, 0, 3),
+        (16, 2, 3),
+        (16, 5, 3),
+        (16, 129, 3),
+    ] {
+        (file[0], file[10]) = (length, rows);
+        must("check", corkhollow::check(file) == Err(Refusal(number)))?;
+        must("check", corkhollow::check(&file[..15]) == Err(Refusal(1)))?;
+    }
+    Ok(())
+}
+
+/// The lanes spell 0, 1, 2, 3 in turn, and all hit: of three rows the last is a miss, whatever its sign, and of four it is 3.
+const SPELT: [u64; 3] = [u64::MAX, 0xaaaa_aaaa_aaaa_aaaa, 0xcccc_cccc_cccc_cccc];
+
+fn beyond_the_rows() -> Checked {
+    for (rows, last, signed_last) in [(3, MISS, SIGNED_MISS), (4, 3, -3)] {
+        let mut samples = [7; 65];
+        let read = corkhollow::samples(rows, &SPELT, &mut samples);
+        let all = samples[..64].chunks(4).all(|four| four == [0, 1, 2, last]);
+        must("samples", read == Ok(()) && all && samples[64] == 7)?;
+        let mut samples = [7; 65];
+        let read = corkhollow::signed_samples(rows, &SPELT, u64::MAX, &mut samples);
+        let gives = [0, -1, -2, signed_last];
+        let all = samples[..64].chunks(4).all(|four| four == gives);
+        must("signed_samples", read == Ok(()) && all && samples[64] == 7)?;
+    }
+    no_rows()
+}
+
+/// 3 for rows outside 1 to 128, also where 32 bits of them are not, and for rows that take more or fewer words; then 13.
+fn no_rows() -> Checked {
+    let large = u32::MAX as usize + 1;
+    for (rows, lent, number) in [
+        (0, 64, 3),
+        (2, 64, 3),
+        (5, 64, 3),
+        (129, 64, 3),
+        (large + 3, 64, 3),
+        (usize::MAX, 64, 3),
+        (2, 63, 3),
+        (3, 63, 13),
+    ] {
+        let mut samples = [7; 64];
+        let read = corkhollow::samples(rows, &SPELT, &mut samples[..lent]);
+        must(
+            "samples",
+            read == Err(Refusal(number)) && samples == [7; 64],
+        )?;
+        let mut samples = [7; 64];
+        let read = corkhollow::signed_samples(rows, &SPELT, SIGN, &mut samples[..lent]);
+        must(
+            "signed_samples",
+            read == Err(Refusal(number)) && samples == [7; 64],
+        )?;
+    }
+    Ok(())
 }
 
 /// Every second lane misses.

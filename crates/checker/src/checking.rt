@@ -63,8 +63,8 @@ fn body(file: &[u8], p: Program) -> Checked
     Checked::Program(p)
 }
 
-// Checks a program file: its registers, inputs, outputs and count, or refusal 1 to 4 or 7 to 10, of which 2 is tried before a header's 1
-// where four bytes are there.
+// Checks a program file: its registers, inputs, outputs, rows and count, or refusal 1 to 4 or 7 to 10, of which 2 is tried before a
+// header's 1 where four bytes are there, and 4 for the header's length before 3.
 pub fn check(program: &[u8]) -> Checked
     ensures { λ r. ⌜ checked r ≡ mapped (λ c. c .program) (checkOf (now (program .entry))) ⌝ }
 {

@@ -1,25 +1,23 @@
--- Lists that `signed_samples` lays down, whatever the output words and the sign word are, and any others with 64 samples at their front,
--- are combined and never refused. Assumes nothing.
+-- Lists that `signed_samples` lays down, whatever the rows, the output words and the sign word are, and any others with 64 samples at their
+-- front, are combined and never refused. Assumes nothing.
 use Prim.Native.Nat.{ℕ, _≤_, _<_}
-use mathlib.Core.Path.{_≡_, refl, ap, _∙_, subst}
+use mathlib.Core.Path.{_≡_, refl, sym, ap, _∙_, subst}
 use mathlib.Core.Bool.{true, false, not}
 use mathlib.Core.List.{List}
 use mathlib.Core.Logic.{inl, inr}
 use native.Mathlib.Omega.{arith}
 use borrow.Author.Tests.{le-ltb}
-use lib.Dec.{ltb}
 use lib.IntN.{ℤ, pos}
 use lib.ListN.{length}
 use Rattle.laws.specs.Sums.{any-all}
 use Rattle.laws.specs.Words.{bitAt}
 use Rattle.laws.specs.Lists.{upto, getD-upto, length-upto}
-use Rattle.laws.specs.Outcome.{gives, gives-inj, passed}
-use Rattle.fields.specs.Limits.{outside, within}
-use Rattle.programs.specs.Limits.{most-outputs}
+use Rattle.laws.specs.Outcome.{gives}
+use Rattle.programs.specs.Reading.{suited-means}
 use Rattle.walk.specs.Walk.{Answer, sample, missed}
 use Rattle.lanes.specs.Slicing.{lanes}
-use Rattle.lanes.specs.Samples.{sampleOf, signedCode, signedSamplesOf, eachLane}
-use Rattle.lanes.specs.Lanes.{Small, given-small, distance}
+use Rattle.lanes.specs.Samples.{sampleOf, signedCode, signedSamplesOf}
+use Rattle.lanes.specs.Lanes.{Small, given-small, distance, read-lanes}
 use Rattle.combining.specs.Combination.{isSample, sample-is, unsound, resultAt, Samples}
 use Rattle.combining.specs.Combining.{unfit, short, combineOf}
 
@@ -36,14 +34,13 @@ upto-samples f e =
       each = λ j h. ap isSample (getD-upto lanes f j (pos 0) h) ∙ e j h;
     }
 
-pub read-samples : (outputs : List ℕ) (sign room : ℕ) (xs : List ℤ) → signedSamplesOf outputs sign room ≡ gives xs → Samples xs
-unfolding eachLane
-read-samples outputs sign room xs e =
-    let a = passed 3 (outside most-outputs (length outputs)) _ xs e in
-    let b = passed 13 (ltb room lanes) _ xs (a .1) in
-    let few = within most-outputs (length outputs) (a .0) .1 in
-    subst Samples (gives-inj (b .1))
-    (upto-samples _ (λ j h. code-sample (bitAt sign j) (sampleOf outputs j) (given-small outputs j few)))
+pub read-samples : (rows : ℕ) (outputs : List ℕ) (sign room : ℕ) (xs : List ℤ) → signedSamplesOf rows outputs sign room ≡ gives xs →
+    Samples xs
+read-samples rows outputs sign room xs e =
+    let r = read-lanes rows outputs room _ xs e in
+    let few = suited-means rows (length outputs) (r .suits) .1 in
+    subst Samples (sym (r .is))
+    (upto-samples _ (λ j h. code-sample (bitAt sign j) (sampleOf rows outputs j) (given-small rows outputs j few)))
 
 -- ---- such lists are combined
 pub samples-combined : (first second room : ℕ) (x1 x2 x3 x4 : List ℤ) → Samples x1 → Samples x2 → Samples x3 → Samples x4 →

@@ -12,12 +12,16 @@ use Rattle.fields.specs.Limits.{most-columns}
 use Rattle.files.specs.Matrix.{Matrix, Accepted, bit}
 use Rattle.files.specs.Files.{matrixOf}
 use Rattle.files.specs.RoundTrip.{read-accepted}
+use Rattle.programs.specs.Width.{rowBits, few-bits}
 use Rattle.programs.specs.Limits.{most-registers, most-inputs, most-outputs, most-instructions}
-use Rattle.programs.specs.Reading.{among-limits}
+use Rattle.programs.specs.Reading.{among-limits, suited-holds}
+use Rattle.programs.specs.Header.{numbersOf}
+use Rattle.programs.specs.Inverse.{header-reads}
+use Rattle.programs.specs.declared.description.Program.{Program}
 use Rattle.checker.specs.Checks.{Code, checkOf}
+use Rattle.checker.specs.Checking.{check-says}
 use Rattle.checker.specs.Accepting.{Sound, accepted}
-use Rattle.compiler.specs.Translation.{rowBits, begin, column, translation, program, compiled, compileUnder, compileOf}
-use Rattle.compiler.specs.Width.{few-bits}
+use Rattle.compiler.specs.Translation.{begin, column, translation, program, compiled, compileUnder, compileOf}
 use Rattle.compiler.specs.Room.{accepted-roomy}
 use Rattle.compiler.specs.Ranges.{in-range, all-set}
 use Rattle.compiler.specs.Written.{written-first}
@@ -36,6 +40,10 @@ module _ (M : Matrix) where
   pub outputs-are : program M .outputs ≡ 1 + rowBits (M .rows)
   unfolding program
   outputs-are = refl
+
+  pub rows-are : program M .rows ≡ M .rows
+  unfolding program
+  rows-are = refl
 
 -- ---- the check passes
 module _ (M : Matrix) (a : Accepted M) where
@@ -59,6 +67,7 @@ module _ (M : Matrix) (a : Accepted M) where
               among-limits most-registers (3 + k + 3 * M .rows) (omega arith) (omega (arith, a .few-rows)),
               among-limits most-inputs (M .columns) (a .some-columns) (a .few-columns),
               among-limits most-outputs (1 + k) (omega arith) (omega arith),
+              suited-holds (M .rows) (1 + k) (a .some-rows) (a .few-rows) refl,
             )
             (le-leb (program M .count) most-instructions (omega (arith, few-in-all)));
         counted = refl;
@@ -70,6 +79,12 @@ module _ (M : Matrix) (a : Accepted M) where
   pub compiled-accepted : checkOf (compiled M) ≡ gives (compiledCode M)
   unfolding compiled
   compiled-accepted = accepted (program M) (translation M) sound
+
+-- 02, order 10: the rows that stand in its header are those of the matrix
+pub header-rows : (M : Matrix) → Accepted M → numbersOf (compiled M) .rows ≡ M .rows
+header-rows M a =
+    let head = check-says (compiled M) (compiledCode M) (compiled-accepted M a) .0 in
+    ap (λ (p : Program). p .rows) (header-reads (compiled M) (program M) head .numbers) ∙ rows-are M
 
 -- what compiling a file lays down: the program of its matrix, within the buffer
 pub compile-lays : (file code : List ℕ) (room : ℕ) → compileOf file room ≡ gives code →

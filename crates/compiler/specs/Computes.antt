@@ -21,9 +21,9 @@ use Rattle.machine.specs.Meaning.{Gates, bitGates, State, exec, exec-append}
 use Rattle.machine.specs.Runs.{Ended, startOn}
 use Rattle.machine.specs.Resuming.{wholeRun, start-whole}
 use Rattle.machine.specs.Calls.{cleared, sized-cleared}
-use Rattle.compiler.specs.Translation.{rowBits, regH, regV, regX, clear, begin, tell, end, liveBefore, column}
+use Rattle.compiler.specs.Translation.{regH, regV, regX, clear, begin, tell, end, liveBefore, column}
 use Rattle.compiler.specs.Translation.{translation, program, compiled}
-use Rattle.compiler.specs.Width.{row-lt}
+use Rattle.programs.specs.Width.{rowBits, row-lt}
 use Rattle.compiler.specs.Room.{Roomy, accepted-roomy}
 use Rattle.compiler.specs.Compiled.{compiledCode, inputs-are, compiled-accepted}
 use Rattle.compiler.specs.Places.{hitBit, sampleBit, answerAt, same, isAt, placeAfter, walk-answer, below-answer, place-below}

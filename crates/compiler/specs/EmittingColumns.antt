@@ -15,8 +15,8 @@ use Rattle.fields.specs.Fields.{bitOf}
 use Rattle.files.specs.Matrix.{most-rows, ones-in}
 use Rattle.fields.specs.Limits.{most-columns}
 use Rattle.programs.specs.declared.description.Instruction.{Instruction}
-use Rattle.compiler.specs.Translation.{rowBits, split, ifSet, mark, marks, keep, column, liveBefore}
-use Rattle.compiler.specs.Width.{row-lt}
+use Rattle.compiler.specs.Translation.{split, ifSet, mark, marks, keep, column, liveBefore}
+use Rattle.programs.specs.Width.{rowBits, row-lt}
 use Rattle.compiler.specs.Size.{bit-times, column-length, marks-count}
 use Rattle.compiler.specs.Emitting.{Fit, Space, space-first, space-next, Emitted, emitted-none, emitted-after}
 

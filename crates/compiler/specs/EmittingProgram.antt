@@ -17,12 +17,13 @@ use Rattle.files.specs.Files.{matrixOf, unpacked}
 use Rattle.files.specs.Live.{ones-eq}
 use Rattle.files.specs.Checks.{unpacked-bit, matrix-read, checked-whole}
 use Rattle.files.specs.RoundTrip.{read-accepted}
+use Rattle.programs.specs.Width.{rowBits}
 use Rattle.programs.specs.Limits.{most-instructions, within}
 use Rattle.programs.specs.Reading.{Within, within-means, header-long, write-header-gives}
 use Rattle.programs.specs.Header.{header-length, headerBytes, writeHeaderOf, codeBytes, programFile}
 use Rattle.programs.specs.declared.description.Program.{Program}
 use Rattle.programs.specs.declared.description.Instruction.{Instruction}
-use Rattle.compiler.specs.Translation.{rowBits, begin, marks, end, column, liveBefore, translationOf}
+use Rattle.compiler.specs.Translation.{begin, marks, end, column, liveBefore, translationOf}
 use Rattle.compiler.specs.Translation.{translation, program, compiled, compileUnder, compileOf}
 use Rattle.compiler.specs.Room.{Roomy, accepted-roomy}
 use Rattle.compiler.specs.Size.{size, whole-length, whole-size, whole-bytes}
@@ -40,7 +41,7 @@ packedMatrix bytes m n = unpacked bytes (record { rows = m; columns = n })
 
 -- the header of a program whose columns are `count` instructions
 abbrev pub described : ℕ → ℕ → ℕ → ℕ → Program
-described k m n count = record { registers = 3 + k + 3 * m; inputs = n; outputs = 1 + k; count = 3 + 2 * k + count }
+described k m n count = record { registers = 3 + k + 3 * m; inputs = n; outputs = 1 + k; rows = m; count = 3 + 2 * k + count }
 
 -- packed rows of an accepted matrix
 pub record Packed (bytes : List ℕ) (m n : ℕ) : Type 0 where

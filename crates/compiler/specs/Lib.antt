@@ -1,7 +1,6 @@
 -- The definitions: what a reader compares with 01, "Translation"
 pub mod Translation
 -- accepted: what is compiled passes the machine's check
-pub mod Width
 pub mod Room
 pub mod Ranges
 pub mod Written

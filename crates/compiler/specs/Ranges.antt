@@ -40,7 +40,7 @@ module _ (P : Instruction → Type 0) where
 module _ (k m n : ℕ) where
   -- a header with any count
   abbrev In : Instruction → Type 0
-  In i = Fits (record { registers = 3 + k + 3 * m; inputs = n; outputs = 1 + k; count = 0 }) i
+  In i = Fits (record { registers = 3 + k + 3 * m; inputs = n; outputs = 1 + k; rows = m; count = 0 }) i
 
   module _ (bit : ℕ → ℕ → ℕ) (r : Roomy m n bit) where
     column-in : (c : ℕ) → c < n → Each In (column k m bit c)

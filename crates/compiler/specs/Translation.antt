@@ -1,6 +1,5 @@
 -- 01, "Translation": the program of a matrix, instruction by instruction, and what compiling a matrix file comes to. Assumes nothing.
 use Prim.Native.Nat.{ℕ, zero, suc, _+_, _-_, _*_, _/_, _%_, _^_, min}
-use mathlib.Core.Bool.{cond}
 use mathlib.Core.List.{List, [], _∷_, _++_}
 use lib.Dec.{ltb}
 use lib.ListN.{length}
@@ -9,23 +8,11 @@ use Rattle.laws.specs.Outcome.{Outcome, gives, refuse, _>>_, _>>=_}
 use Rattle.files.specs.Matrix.{Matrix, bit, ones-in}
 use Rattle.fields.specs.Limits.{most-columns}
 use Rattle.files.specs.Files.{matrixUnder}
+use Rattle.programs.specs.Width.{rowBits}
 use Rattle.programs.specs.Header.{programFile}
 use Rattle.programs.specs.declared.description.Program.{Program}
 use Rattle.programs.specs.declared.description.Instruction.{Instruction}
 use Rattle.programs.specs.declared.description.Instruction.the-variants.{Ones, Zero, Input, Not, And, Or, Output}
-
--- the bits needed to write x, where those needed to write x - 1 are k: one more where k bits are too few
-abbrev pub widened : ℕ → ℕ → ℕ
-widened x k = cond (ltb x (2 ^ k)) k (suc k)
-
--- the bits needed to write x, none for 0
-unfoldable pub bitsToWrite : ℕ → ℕ
-bitsToWrite zero = 0
-bitsToWrite (suc x) = widened (suc x) (bitsToWrite x)
-
--- k, for m rows: the bits needed to write m - 1
-unfoldable pub rowBits : ℕ → ℕ
-rowBits m = bitsToWrite (m - 1)
 
 -- ---- registers: B, N, H, then k of V, m of X, 2m of Y
 abbrev pub regB : ℕ
@@ -118,6 +105,7 @@ program M =
       registers = 3 + rowBits (M .rows) + 3 * M .rows;
       inputs = M .columns;
       outputs = 1 + rowBits (M .rows);
+      rows = M .rows;
       count = length (translation M);
     }
 

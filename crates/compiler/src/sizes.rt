@@ -7,7 +7,8 @@ ghost use Rattle.files.specs.Matrix.{ones-in, most-rows};
 ghost use Rattle.fields.specs.Limits.{most-columns};
 ghost use Rattle.programs.specs.Limits.{most-instructions};
 ghost use Rattle.programs.specs.Header.{header-length};
-ghost use Rattle.compiler.specs.Translation.{column, rowBits};
+ghost use Rattle.programs.specs.Width.{rowBits};
+ghost use Rattle.compiler.specs.Translation.{column};
 ghost use Rattle.compiler.specs.Room.{Roomy};
 ghost use Rattle.compiler.specs.EmittingColumns.{Live, Marked, packedRows, Passed};
 ghost use Rattle.compiler.specs.EmittingProgram.{Measured, Packed};
@@ -15,25 +16,7 @@ use fields::bit;
 use fields::width;
 use programs::Instruction;
 use programs::Program;
-
-// k, the bits needed to write m - 1, by the cases of 02, order 6. No accepted matrix has another number of rows, so the last arm is never
-// taken.
-fn row_bits(m: usize) -> usize
-    requires { ⌜ (1 ≤ m) × (m ≤ most-rows) ⌝ }
-    ensures { λ r. ⌜ r ≡ rowBits m ⌝ }
-{
-    match m {
-        1 => 0,
-        2 => 1,
-        3..=4 => 2,
-        5..=8 => 3,
-        9..=16 => 4,
-        17..=32 => 5,
-        33..=64 => 6,
-        65..=128 => 7,
-        _ => 0,
-    }
-}
+use programs::row_bits;
 
 // The live count after a column with w ones, before which it was h: the smaller of 2h - w and m.
 fn live_after(h: usize, w: usize, m: usize) -> usize

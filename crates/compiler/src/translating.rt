@@ -30,6 +30,7 @@ fn describe(k: usize, m: usize, n: usize, count: usize) -> Program
         registers: 3 + k + 3 * m,
         inputs: n,
         outputs: 1 + k,
+        rows: m,
         count: (3 + 2 * k + count) as u32,
     }
 }

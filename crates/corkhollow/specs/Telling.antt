@@ -111,19 +111,22 @@ tells-one {A = A} say part o one c e a t =
     (returns-of say whole o c all a, tells-of say whole part o one c all t)
 
 -- a program is checked, and its header told
-pub checks : {X : Type 0} (say : X → Outcome Program) (o : Outcome Code) {x y : X} {r registers′ inputs′ outputs′ count′ : ℕ}
-    (registers inputs outputs count : ℕ) → x ≡ y → say x ≡ mapped (λ c. c .program) o → Returns (say y) r →
+pub checks : {X : Type 0} (say : X → Outcome Program) (o : Outcome Code) {x y : X} {r registers′ inputs′ outputs′ rows′ count′ : ℕ}
+    (registers inputs outputs rows count : ℕ) → x ≡ y → say x ≡ mapped (λ c. c .program) o → Returns (say y) r →
     Tells (λ p. p .registers) (say y) registers registers′ → Tells (λ p. p .inputs) (say y) inputs inputs′ →
-    Tells (λ p. p .outputs) (say y) outputs outputs′ → Tells (λ p. p .count) (say y) count count′ →
+    Tells (λ p. p .outputs) (say y) outputs outputs′ → Tells (λ p. p .rows) (say y) rows rows′ →
+    Tells (λ p. p .count) (say y) count count′ →
     (r ≡ returned o) × (registers′ ≡ told (λ c. c .program .registers) o registers) × (inputs′ ≡ told (λ c. c .program .inputs) o inputs) ×
-    (outputs′ ≡ told (λ c. c .program .outputs) o outputs) × (count′ ≡ told (λ c. c .program .count) o count)
-checks say o registers inputs outputs count c e a t u v w =
+    (outputs′ ≡ told (λ c. c .program .outputs) o outputs) × (rows′ ≡ told (λ c. c .program .rows) o rows) ×
+    (count′ ≡ told (λ c. c .program .count) o count)
+checks say o registers inputs outputs rows count c e a t u v w x =
     let f : Code → Program = λ c. c .program in (
       returns-of say f o c e a,
       tells-of say f (λ p. p .registers) o registers c e t,
       tells-of say f (λ p. p .inputs) o inputs c e u,
       tells-of say f (λ p. p .outputs) o outputs c e v,
-      tells-of say f (λ p. p .count) o count c e w,
+      tells-of say f (λ p. p .rows) o rows c e w,
+      tells-of say f (λ p. p .count) o count c e x,
     )
 
 -- a program is run, and the answer told

@@ -32,13 +32,14 @@ pub extern "C" fn corkhollow_compile(file: &[u8], program: &mut [u8], length: &m
     }
 }
 
-// Checks a program file: its registers, inputs, outputs and instructions.
+// Checks a program file: its registers, inputs, outputs, rows and instructions.
 #[no_mangle]
 pub extern "C" fn corkhollow_check(
     program: &[u8],
     registers: &mut usize,
     inputs: &mut usize,
     outputs: &mut usize,
+    rows: &mut usize,
     count: &mut u32,
 ) -> u32
     ensures { λ r. ⌜ (
@@ -47,6 +48,7 @@ pub extern "C" fn corkhollow_check(
         (now (registers .exit) ≡ told (λ c. c .program .registers) o (now (registers .entry))) ×
         (now (inputs .exit) ≡ told (λ c. c .program .inputs) o (now (inputs .entry))) ×
         (now (outputs .exit) ≡ told (λ c. c .program .outputs) o (now (outputs .entry))) ×
+        (now (rows .exit) ≡ told (λ c. c .program .rows) o (now (rows .entry))) ×
         (now (count .exit) ≡ told (λ c. c .program .count) o (now (count .entry)))
         ) ⌝ }
 {
@@ -56,6 +58,7 @@ pub extern "C" fn corkhollow_check(
             *registers = p.registers;
             *inputs = p.inputs;
             *outputs = p.outputs;
+            *rows = p.rows;
             *count = p.count;
             0
         }

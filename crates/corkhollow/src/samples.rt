@@ -26,16 +26,16 @@ pub extern "C" fn corkhollow_slice(columns: usize, strings: &[u8], words: &mut [
     }
 }
 
-// Reads the samples of 64 lanes off output words.
+// Reads the samples of 64 lanes off output words, of so many rows.
 #[no_mangle]
-pub extern "C" fn corkhollow_samples(outputs: &[u64], samples: &mut [u8]) -> u32
+pub extern "C" fn corkhollow_samples(rows: usize, outputs: &[u64], samples: &mut [u8]) -> u32
     ensures { λ r. ⌜ (
-        let o = samplesOf (now (outputs .entry)) (length (now (samples .entry))) in
+        let o = samplesOf rows (now (outputs .entry)) (length (now (samples .entry))) in
         (r ≡ returned o) ×
         (now (samples .exit) ≡ lay (laid (λ xs. xs) o) (now (samples .entry)))
         ) ⌝ }
 {
-    match lanes::samples(outputs, samples) {
+    match lanes::samples(rows, outputs, samples) {
         Sampled::Refused(why) => number(why),
         Sampled::All => 0,
     }

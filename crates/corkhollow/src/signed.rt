@@ -12,16 +12,21 @@ use combining::combine;
 use fields::number;
 use lanes::Sampled;
 
-// Reads the signed samples of 64 lanes off output words, with a sign word.
+// Reads the signed samples of 64 lanes off output words, of so many rows, with a sign word.
 #[no_mangle]
-pub extern "C" fn corkhollow_signed_samples(outputs: &[u64], sign: u64, samples: &mut [i16]) -> u32
+pub extern "C" fn corkhollow_signed_samples(
+    rows: usize,
+    outputs: &[u64],
+    sign: u64,
+    samples: &mut [i16],
+) -> u32
     ensures { λ r. ⌜ (
-        let o = signedSamplesOf (now (outputs .entry)) sign (length (now (samples .entry))) in
+        let o = signedSamplesOf rows (now (outputs .entry)) sign (length (now (samples .entry))) in
         (r ≡ returned o) ×
         (now (samples .exit) ≡ lay (laid (λ xs. xs) o) (now (samples .entry)))
         ) ⌝ }
 {
-    match lanes::signed_samples(outputs, sign, samples) {
+    match lanes::signed_samples(rows, outputs, sign, samples) {
         Sampled::Refused(why) => number(why),
         Sampled::All => 0,
     }

@@ -9,7 +9,7 @@ use lib.ListN.{length, take, getD, replicate, length-replicate}
 use Rattle.laws.specs.Lists.{length-upto}
 use Rattle.laws.specs.Lay.{lay, length-lay, at-front, take-lay}
 use Rattle.laws.specs.Outcome.{Outcome, refused, gives, refuse, _>>=_, mapped, laid, gives-inj, mapped-gives, mapped-refused, mapped-mapped}
-use Rattle.laws.specs.Outcome.{no-result, bind-is, bind-after, then-after, laid-mapped, ends-refused}
+use Rattle.laws.specs.Outcome.{no-result, bind-is, bind-after, then-after, ends-refused}
 use Rattle.fields.specs.Fields.{width}
 use Rattle.fields.specs.Refusal.{numberOf}
 use Rattle.fields.specs.declared.refusals.Refusal.{Refusal}
@@ -27,13 +27,17 @@ use Rattle.machine.specs.Calls.{Room, Enough, cleared, start-is, admitted-gives
 use Rattle.machine.specs.declared.runs.Run.{Run}
 use Rattle.lanes.specs.Slicing.{lanes, sliceUnder, sliceOf, wordOf}
 use Rattle.lanes.specs.Lanes.{cut}
-use Rattle.drawing.specs.Drawing.{drawnUnder, drawnWith, batchOf, afterOwn, batched, few}
+use Rattle.drawing.specs.Drawing.{drawnUnder, drawnWith, Left, left, batchOf, afterOwn, batched, batchedRows, few}
 use Rattle.drawing.specs.declared.Batch.{Batch}
 use Rattle.drawing.specs.declared.Batch.the-variants as Batch
 
--- the outputs that a run leaves
-abbrev outputsOf : Ended ℕ → List ℕ
-outputsOf e = e .state .outputs
+-- what a run leaves, of so many rows
+abbrev leftBy : ℕ → Ended ℕ → Left
+leftBy rows e = left rows (e .state .outputs)
+
+-- how many outputs were left
+abbrev many : Left → ℕ
+many l = length (l .outputs)
 
 -- ---- a start takes of what is lent no word but the program's inputs
 module _ {A : Type 0} (G : Gates A) (file : List ℕ) (c : Code) (ok : checkOf file ≡ gives c) (budget : ℕ) where
@@ -90,12 +94,12 @@ module _ (program strings : List ℕ) (room : ℕ) (c : Code) (ok : checkOf prog
   -- it has the outputs of a start on any words that are long enough and begin with those that are sliced
   batch-starts : (inputs registers outputs : List ℕ) → Room header inputs registers outputs →
       ((k : ℕ) → k < header .inputs → getD ws k 0 ≡ getD inputs k 0) →
-      batchOf program strings room ≡ mapped outputsOf (startOf program inputs registers outputs (header .count))
+      batchOf program strings room ≡ mapped (leftBy (header .rows)) (startOf program inputs registers outputs (header .count))
   unfolding drawnUnder
   batch-starts inputs registers outputs r same =
       rw (ok, sliced, le-ltb room lanes enough)
       (rw (start-agrees wordGates program c ok (header .count) ws _ _ inputs registers outputs own-room r same)
-      (bind-is (startOf program inputs registers outputs (header .count)) outputsOf))
+      (bind-is (startOf program inputs registers outputs (header .count)) (leftBy (header .rows))))
 
 -- ---- the header that is read first is that of the accepted program
 header-same : (program : List ℕ) (p : Program) (c : Code) → headerOf program ≡ gives p → checkOf program ≡ gives c → c .program ≡ p
@@ -133,8 +137,20 @@ start-refuses : (program inputs registers outputs : List ℕ) (budget k : ℕ) �
 unfolding startUnder
 start-refuses program inputs registers outputs budget k e = rw e
 
+laid-left : (rows : ℕ) (o : Outcome (Ended ℕ)) → laid (λ l. l .outputs) (mapped (leftBy rows) o) ≡ laid (λ e. e .state .outputs) o
+laid-left rows (refused k) = refl
+laid-left rows (gives e) = refl
+
 -- ---- the ways of a batch on words of the engine's own
 module _ (program strings : List ℕ) (room : ℕ) where
+  -- a batch that is refused tells it, and lays nothing down
+  pub batch-refused : (n : ℕ) (outputs : List ℕ) → batchOf program strings room ≡ refused n →
+      (refused n ≡ mapped many (batchOf program strings room)) × (refused n ≡ mapped (λ l. l .rows) (batchOf program strings room)) ×
+      (outputs ≡ lay (laid (λ l. l .outputs) (batchOf program strings room)) outputs)
+  batch-refused n outputs e =
+      let ends = ends-refused many (λ (l : Left). l .outputs) n (batchOf program strings room) outputs e in
+      (ends .0, rw e, ends .1)
+
   pub batch-headless : (k : ℕ) → refused k ≡ headerOf program → batchOf program strings room ≡ refused k
   batch-headless k e =
       batch-refuses program strings room k (mapped-refused (λ (c : Code). c .program) (checkOf program) k (check-refused program k e))
@@ -177,19 +193,19 @@ module _ (program strings : List ℕ) (room : ℕ) where
               for-outputs = omega (arith, limits .few-outputs);
             }
 
-        start-own : batchOf program strings room ≡ mapped outputsOf (startOf program (lay ws blank) registers outputs (p .count))
+        start-own : batchOf program strings room ≡ mapped (leftBy (p .rows)) (startOf program (lay ws blank) registers outputs (p .count))
         start-own = by (checkOf program) refl
           where
             by : (o : Outcome Code) → checkOf program ≡ o →
-                batchOf program strings room ≡ mapped outputsOf (startOf program (lay ws blank) registers outputs (p .count))
+                batchOf program strings room ≡ mapped (leftBy (p .rows)) (startOf program (lay ws blank) registers outputs (p .count))
             by (refused k) ok =
                 batch-refuses program strings room k ok ∙
-                ap (mapped outputsOf) (sym (start-refuses program (lay ws blank) registers outputs (p .count) k ok))
+                ap (mapped (leftBy (p .rows))) (sym (start-refuses program (lay ws blank) registers outputs (p .count) k ok))
             by (gives c) ok =
                 let q = header-same program p c (sym head) ok in
                 batch-starts program strings room c ok ws (slice-own c ok ∙ sliced) enough (lay ws blank) registers outputs (rw q own-words)
                 (λ k l. sym (at-front ws blank k 0 (omega (arith, ws-long, rw q at l)))) ∙
-                ap (λ (r : Program). mapped outputsOf (startOf program (lay ws blank) registers outputs (r .count))) q
+                ap (λ (r : Program). mapped (leftBy (r .rows)) (startOf program (lay ws blank) registers outputs (r .count))) q
 
         own-long : (e : Ended ℕ) → startOf program (lay ws blank) registers outputs (p .count) ≡ gives e →
             length (e .state .outputs) ≡ p .outputs
@@ -212,75 +228,94 @@ module _ (program strings : List ℕ) (room : ℕ) where
             laid-words ∙ ap (λ (o : Outcome (List ℕ)). lay (laid (λ xs. xs) o) blank) (mapped-gives length slices m s .1)
 
         -- a batch is a start on the words of the engine's own
-        batch-is : batchOf program strings room ≡ mapped outputsOf ending
+        batch-is : batchOf program strings room ≡ mapped (leftBy (p .rows)) ending
         batch-is = rw own-inputs (start-own (mapped-gives length slices m s .0) (mapped-gives length slices m s .1))
 
         -- and has as many outputs as its header says
-        batch-counts : mapped length (batchOf program strings room) ≡ mapped (λ e. p .outputs) ending
+        batch-counts : mapped many (batchOf program strings room) ≡ mapped (λ e. p .outputs) ending
         batch-counts = by ending refl
           where
-            by : (o : Outcome (Ended ℕ)) → ending ≡ o → mapped length (batchOf program strings room) ≡ mapped (λ e. p .outputs) o
-            by (refused k) e = ap (mapped length) (batch-is ∙ ap (mapped outputsOf) e)
+            by : (o : Outcome (Ended ℕ)) → ending ≡ o → mapped many (batchOf program strings room) ≡ mapped (λ e. p .outputs) o
+            by (refused k) e = ap (mapped many) (batch-is ∙ ap (mapped (leftBy (p .rows))) e)
             by (gives x) e =
-                ap (mapped length) (batch-is ∙ ap (mapped outputsOf) e) ∙
+                ap (mapped many) (batch-is ∙ ap (mapped (leftBy (p .rows))) e) ∙
                 ap gives (own-long (mapped-gives length slices m s .0) (mapped-gives length slices m s .1) x (rw own-inputs at e))
 
+        -- and its rows
+        batch-rows : mapped (λ l. l .rows) (batchOf program strings room) ≡ mapped (λ e. p .rows) ending
+        batch-rows =
+            ap (mapped (λ (l : Left). l .rows)) batch-is ∙
+            mapped-mapped (leftBy (p .rows)) (λ (l : Left). l .rows) (λ (e : Ended ℕ). p .rows) ending (λ e. refl)
+
         -- so it ends, refused or done, as the start did
+        told : (n : ℕ) (a : Outcome Run) → a ≡ mapped (λ e. e .answer) ending → mapped (λ r. n) a ≡ mapped (λ e. n) ending
+        told n a e =
+            ap (mapped (λ (r : Run). n)) e ∙
+            mapped-mapped (λ (e : Ended ℕ). e .answer) (λ (r : Run). n) (λ (e : Ended ℕ). n) ending (λ e. refl)
+
         pub batch-ends : (outputs′ : List ℕ) (a : Outcome Run) → a ≡ mapped (λ e. e .answer) ending →
             outputs′ ≡ lay (laid (λ e. e .state .outputs) ending) outputs →
-            (mapped (λ r. p .outputs) a ≡ mapped length (batchOf program strings room)) ×
-            (outputs′ ≡ lay (laid (λ xs. xs) (batchOf program strings room)) outputs)
+            (mapped (λ r. p .outputs) a ≡ mapped many (batchOf program strings room)) ×
+            (mapped (λ r. p .rows) a ≡ mapped (λ l. l .rows) (batchOf program strings room)) ×
+            (outputs′ ≡ lay (laid (λ l. l .outputs) (batchOf program strings room)) outputs)
         batch-ends outputs′ a e l = (
-          ap (mapped (λ (r : Run). p .outputs)) e ∙
-              (mapped-mapped (λ (e : Ended ℕ). e .answer) (λ (r : Run). p .outputs) (λ (e : Ended ℕ). p .outputs) ending (λ e. refl) ∙
-              sym batch-counts),
-          l ∙ ap (λ (xs : List ℕ). lay xs outputs) (sym (ap (laid (λ xs. xs)) batch-is ∙ laid-mapped outputsOf ending)),
+          told (p .outputs) a e ∙ sym batch-counts,
+          told (p .rows) a e ∙ sym batch-rows,
+          l ∙ ap (λ (xs : List ℕ). lay xs outputs) (sym (ap (laid (λ (l : Left). l .outputs)) batch-is ∙ laid-left (p .rows) ending)),
         )
 
 -- ---- a drawing is a batch, then its outputs read
-module _ {A : Type 0} (program strings : List ℕ) (room : ℕ) (read : List ℕ → Outcome A) where
-  drawn-is : drawnWith program strings room read ≡ (batchOf program strings room >>= read)
+module _ {A : Type 0} (program strings : List ℕ) (room : ℕ) (read : ℕ → List ℕ → Outcome A) where
+  abbrev readLeft : Left → Outcome A
+  readLeft l = read (l .rows) (l .outputs)
+
+  drawn-is : drawnWith program strings room read ≡ (batchOf program strings room >>= readLeft)
   unfolding drawnUnder
   drawn-is =
-      bind-after (checkOf program) _ read _
-      (λ c. bind-after (sliceOf (c .program .inputs) strings (c .program .inputs)) _ read _
-      (λ ws. then-after (refuse 13 (ltb room lanes)) _ read _
+      bind-after (checkOf program) _ readLeft _
+      (λ c. bind-after (sliceOf (c .program .inputs) strings (c .program .inputs)) _ readLeft _
+      (λ ws. then-after (refuse 13 (ltb room lanes)) _ readLeft _
       (bind-after
       (startOf program ws (replicate (c .program .registers) 0) (replicate (c .program .outputs) 0) (c .program .count))
-      _ read _ (λ e. refl))))
+      _ readLeft _ (λ e. refl))))
 
-read-front : {A : Type 0} (read : List ℕ → Outcome A) (o : Outcome (List ℕ)) (n : ℕ) (xs outputs blank : List ℕ) → o ≡ gives xs →
-    length xs ≡ n → outputs ≡ lay (laid (λ xs. xs) o) blank → (o >>= read) ≡ read (take n outputs)
-read-front read o n xs outputs blank e q l =
-    let front : outputs ≡ lay xs blank = l ∙ rw e in
-    rw (e, front, take-lay n xs blank q)
+read-front : {A : Type 0} (read : ℕ → List ℕ → Outcome A) (o : Outcome Left) (rows n : ℕ) (l : Left) (outputs blank : List ℕ) →
+    o ≡ gives l → l .rows ≡ rows → many l ≡ n → outputs ≡ lay (laid (λ l. l .outputs) o) blank →
+    (o >>= (λ l. read (l .rows) (l .outputs))) ≡ read rows (take n outputs)
+read-front read o rows n l outputs blank e r q b =
+    let front : outputs ≡ lay (l .outputs) blank = b ∙ rw e in
+    rw (e, front, take-lay n (l .outputs) blank q, r)
 
 -- ---- as code has it: the batch answers x, and leaves its outputs at the front of blank words
 -- no more of them than a program may have
 pub batch-few : (program : List ℕ) (p : Program) → gives p ≡ headerOf program → p .outputs ≤ most-outputs
 batch-few program p head = header-within program p (sym head) .few-outputs
 
-pub few-of : {x : Batch} {n : ℕ} → x ≡ Batch.Outputs n → few x → n ≤ most-outputs
+pub few-of : {x : Batch} {rows n : ℕ} → x ≡ Batch.Outputs rows n → few x → n ≤ most-outputs
 few-of c e = rw c at e
 
-module _ (program strings : List ℕ) (room : ℕ) {x : Batch} where
-  module _ {A : Type 0} (read : List ℕ → Outcome (List A)) (samples : List A) where
-    pub drawn-refused : {why : Refusal} → x ≡ Batch.Refused why → batched x ≡ mapped length (batchOf program strings room) →
-        (refused (numberOf why) ≡ mapped {B = Unit {0}} (λ xs. tt) (drawnWith program strings room read)) ×
-        (samples ≡ lay (laid (λ xs. xs) (drawnWith program strings room read)) samples)
-    drawn-refused {why} c e =
-        ends-refused {B = Unit {0}} (λ (xs : List A). tt) (λ (xs : List A). xs) (numberOf why) (drawnWith program strings room read) samples
-        (drawn-is program strings room read ∙
-        rw (mapped-refused length (batchOf program strings room) (numberOf why) (rw c at e)))
+module _ (program strings : List ℕ) (room : ℕ) where
+  abbrev batch : Outcome Left
+  batch = batchOf program strings room
 
-    -- what is read are the outputs of the batch
-    pub drawn-read : {n : ℕ} {outputs : List ℕ} (blank : List ℕ) {a : Outcome (Unit {0})} {samples′ : List A} → x ≡ Batch.Outputs n →
-        (batched x ≡ mapped length (batchOf program strings room)) ×
-        (outputs ≡ lay (laid (λ xs. xs) (batchOf program strings room)) blank) →
-        (a ≡ mapped (λ xs. tt) (read (take n outputs))) × (samples′ ≡ lay (laid (λ xs. xs) (read (take n outputs))) samples) →
-        (a ≡ mapped (λ xs. tt) (drawnWith program strings room read)) ×
-        (samples′ ≡ lay (laid (λ xs. xs) (drawnWith program strings room read)) samples)
-    drawn-read {n} {outputs} blank c b r =
-        let g = mapped-gives length (batchOf program strings room) n (rw c at (b .0)) in
-        rw (drawn-is program strings room read ∙
-        read-front read (batchOf program strings room) n (g .0) outputs blank (g .1) (g .2) (b .1)) r
+  module _ {A : Type 0} (read : ℕ → List ℕ → Outcome (List A)) (samples : List A) where
+    abbrev drawn : Outcome (List A)
+    drawn = drawnWith program strings room read
+
+    pub drawn-refused : {x : Batch} {why : Refusal} → x ≡ Batch.Refused why → batched x ≡ mapped many batch →
+        (refused (numberOf why) ≡ mapped {B = Unit {0}} (λ xs. tt) drawn) × (samples ≡ lay (laid (λ xs. xs) drawn) samples)
+    drawn-refused {why = why} c e =
+        ends-refused {B = Unit {0}} (λ (xs : List A). tt) (λ (xs : List A). xs) (numberOf why) drawn samples
+        (drawn-is program strings room read ∙ rw (mapped-refused many batch (numberOf why) (rw c at e)))
+
+    -- what is read are the outputs of the batch, of its rows
+    pub drawn-read : {x : Batch} {rows n : ℕ} {outputs : List ℕ} (blank : List ℕ) {a : Outcome (Unit {0})} {samples′ : List A} →
+        x ≡ Batch.Outputs rows n →
+        (batched x ≡ mapped many batch) × (batchedRows x ≡ mapped (λ l. l .rows) batch) ×
+        (outputs ≡ lay (laid (λ l. l .outputs) batch) blank) →
+        (a ≡ mapped (λ xs. tt) (read rows (take n outputs))) × (samples′ ≡ lay (laid (λ xs. xs) (read rows (take n outputs))) samples) →
+        (a ≡ mapped (λ xs. tt) drawn) × (samples′ ≡ lay (laid (λ xs. xs) drawn) samples)
+    drawn-read {rows = rows} {n = n} {outputs = outputs} blank c b r =
+        let (l, is, long) = mapped-gives many batch n (rw c at (b .0)) in
+        let own : l .rows ≡ rows = sym (gives-inj (rw (c, is) at (b .1))) in
+        rw (drawn-is program strings room read ∙ read-front read batch rows n l outputs blank is own long (b .2)) r

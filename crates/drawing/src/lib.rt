@@ -11,7 +11,7 @@ ghost use Rattle.laws.specs.Outcome.{laid, mapped, refused};
 ghost use Rattle.fields.specs.Refusal.{numberOf};
 ghost use Rattle.programs.specs.Limits.{most-outputs, most-registers};
 ghost use Rattle.lanes.specs.Samples.{sampled};
-ghost use Rattle.drawing.specs.Drawing.{afterOwn, batched, batchOf, drawOf, drawSignedOf, few};
+ghost use Rattle.drawing.specs.Drawing.{afterOwn, batched, batchedRows, batchOf, drawOf, drawSignedOf, few};
 use checker::check;
 use fields::Refusal;
 use lanes::LANES;
@@ -25,10 +25,10 @@ use programs::Checked;
 use programs::Program;
 use programs::read_header;
 
-// A refusal, or how many outputs a batch has left.
+// A refusal, or the rows of a program that ran and how many outputs it has left.
 enum Batch {
     Refused(Refusal),
-    Outputs(usize),
+    Outputs(usize, usize),
 }
 
 // The program's own refusal where it has one, and otherwise another.
@@ -52,8 +52,9 @@ fn run_batch(
     requires { ⌜ (most-registers ≤ length (now registers)) × (most-outputs ≤ length (now outputs)) ⌝ }
     ensures { λ r. ⌜ (
         let o = batchOf (now (program .entry)) (now (strings .entry)) room in
-        (batched r ≡ mapped length o) ×
-        (now (outputs .exit) ≡ lay (laid (λ xs. xs) o) (now (outputs .entry)))
+        (batched r ≡ mapped (λ l. length (l .outputs)) o) ×
+        (batchedRows r ≡ mapped (λ l. l .rows) o) ×
+        (now (outputs .exit) ≡ lay (laid (λ l. l .outputs) o) (now (outputs .entry)))
         ) ⌝ }
     ensures { λ r. ⌜ few r ⌝ }
 {
@@ -71,7 +72,7 @@ fn run_batch(
     }
     match start(program, &words, registers, outputs, p.count) {
         Ran::Refused(why) => Batch::Refused(why),
-        Ran::Done(_) => Batch::Outputs(p.outputs),
+        Ran::Done(_) => Batch::Outputs(p.rows, p.outputs),
     }
 }
 
@@ -95,7 +96,7 @@ pub fn draw(program: &[u8], strings: &[u8], samples: &mut [u8]) -> Sampled
         &mut outputs,
     ) {
         Batch::Refused(why) => Sampled::Refused(why),
-        Batch::Outputs(n) => lanes::samples(&outputs[..n], samples),
+        Batch::Outputs(rows, n) => lanes::samples(rows, &outputs[..n], samples),
     }
 }
 
@@ -118,6 +119,6 @@ pub fn draw_signed(program: &[u8], strings: &[u8], sign: u64, samples: &mut [i16
         &mut outputs,
     ) {
         Batch::Refused(why) => Sampled::Refused(why),
-        Batch::Outputs(n) => lanes::signed_samples(&outputs[..n], sign, samples),
+        Batch::Outputs(rows, n) => lanes::signed_samples(rows, &outputs[..n], sign, samples),
     }
 }

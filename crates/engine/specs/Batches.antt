@@ -2,7 +2,6 @@
 -- Assumes nothing.
 use Prim.Native.Nat.{ℕ, _*_, _^_, _≤_, _<_}
 use mathlib.Core.Path.{_≡_, sym, ap, _∙_}
-use mathlib.Core.Bool.{false}
 use mathlib.Core.List.{List}
 use mathlib.Core.Logic.{⊎-elim}
 use native.Mathlib.Omega.{arith}
@@ -13,19 +12,17 @@ use Rattle.laws.specs.Lists.{upto, upto-eq, getD-upto, length-upto}
 use Rattle.laws.specs.Outcome.{gives, mapped, _>>=_, gives-inj}
 use Rattle.fields.specs.Fields.{width, bitOf}
 use Rattle.files.specs.Matrix.{Matrix}
-use Rattle.fields.specs.Limits.{outside, inside}
 use Rattle.files.specs.Files.{matrixOf}
 use Rattle.fields.specs.Strings.{stringsOf}
 use Rattle.files.specs.RoundTrip.{read-accepted}
 use Rattle.machine.specs.Runs.{startOf}
 use Rattle.walk.specs.Walk.{Answer, drawn, answerOf, walkOf}
 use Rattle.lanes.specs.Slicing.{lanes, stringAt, stringBits, wordOf}
-use Rattle.programs.specs.Limits.{most-outputs}
 use Rattle.lanes.specs.Samples.{sampleOf, code, signedCode, eachLane, samplesOf, signedSamplesOf, lanes-give}
 use Rattle.lanes.specs.Lanes.{lane-of-word, word-lt}
 use Rattle.spent.specs.Theorems.{string-walked}
 use Rattle.compiler.specs.Translation.{program, compiled}
-use Rattle.compiler.specs.Width.{few-bits}
+use Rattle.compiler.specs.Compiled.{header-rows}
 use Rattle.engine.specs.Given.{Choice, Fair, given}
 use Rattle.engine.specs.Lanewise.{Starts, starts, lane-draws}
 
@@ -37,7 +34,7 @@ slicedWords n strings = upto n (wordOf strings (width n))
 abbrev pub drawnAt : Matrix → List ℕ → ℕ → Answer
 drawnAt M strings j = answerOf (drawn M (stringBits (M .columns) strings j))
 
-words-small : (n : ℕ) (strings : List ℕ) (i : ℕ) → getD (slicedWords n strings) i 0 < 2 ^ lanes
+pub words-small : (n : ℕ) (strings : List ℕ) (i : ℕ) → getD (slicedWords n strings) i 0 < 2 ^ lanes
 words-small n strings i =
     ⊎-elim (λ (l : i < n). rw (getD-upto n (wordOf strings (width n)) i 0 l) (word-lt strings (width n) i))
     (λ (l : n ≤ i).
@@ -85,36 +82,32 @@ module _ (file : List ℕ) (M : Matrix) (e : matrixOf file ≡ gives M) (strings
     abbrev left : List ℕ
     left = ending .ended .state .outputs
 
-    lane-left : (j : ℕ) → j < lanes → sampleOf left j ≡ drawnAt M strings j
+    lane-left : (j : ℕ) → j < lanes → sampleOf (M .rows) left j ≡ drawnAt M strings j
     unfolding given
     lane-left j h =
-        gives-inj (rw (ending .is) at (lane-draws M (read-accepted file M e) _ (bits-many j) (chosen j) (fair j h)))
-
-    few : outside most-outputs (length left) ≡ false
-    few =
         let a = read-accepted file M e in
-        let k = few-bits (M .rows) (a .few-rows) in
-        inside most-outputs (length left) (omega (arith, ending .long)) (omega (arith, ending .long, k))
+        gives-inj (rw (ending .is, header-rows M a) at (lane-draws M a _ (bits-many j) (chosen j) (fair j h)))
 
     -- reading one number from each lane, whatever is made of what it gives
     each-lane : {A : Type 0} (f : ℕ → Answer → A) →
         (startOf (compiled M) (slicedWords (M .columns) strings) registers outputs budget >>=
-        (λ x. eachLane (x .state .outputs) room (λ j. f j (sampleOf (x .state .outputs) j)))) ≡
+        (λ x. eachLane (M .rows) (x .state .outputs) room (λ j. f j (sampleOf (M .rows) (x .state .outputs) j)))) ≡
         gives (upto lanes (λ j. f j (drawnAt M strings j)))
     each-lane f =
         rw (ending .is)
-        (lanes-give left room (λ j. f j (sampleOf left j)) few space ∙
-        ap gives (upto-eq lanes (λ j. f j (sampleOf left j)) (λ j. f j (drawnAt M strings j)) (λ j h. ap (f j) (lane-left j h))))
+        (lanes-give (M .rows) left room (λ j. f j (sampleOf (M .rows) left j)) (ending .suits) space ∙
+        ap gives (upto-eq lanes (λ j. f j (sampleOf (M .rows) left j)) (λ j. f j (drawnAt M strings j)) (λ j h. ap (f j) (lane-left j h))))
 
     -- sample j is that of the walk on string j
     pub batch-samples :
-        (startOf (compiled M) (slicedWords (M .columns) strings) registers outputs budget >>= (λ x. samplesOf (x .state .outputs) room)) ≡
+        (startOf (compiled M) (slicedWords (M .columns) strings) registers outputs budget >>=
+        (λ x. samplesOf (M .rows) (x .state .outputs) room)) ≡
         gives (upto lanes (λ j. code (drawnAt M strings j)))
     batch-samples = each-lane (λ j g. code g)
 
     -- and signed, with a sign word
     pub batch-signed : (sign : ℕ) →
         (startOf (compiled M) (slicedWords (M .columns) strings) registers outputs budget >>=
-        (λ x. signedSamplesOf (x .state .outputs) sign room)) ≡
+        (λ x. signedSamplesOf (M .rows) (x .state .outputs) sign room)) ≡
         gives (upto lanes (λ j. signedCode (bitAt sign j) (drawnAt M strings j)))
     batch-signed sign = each-lane (λ j g. signedCode (bitAt sign j) g)

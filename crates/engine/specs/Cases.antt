@@ -29,7 +29,8 @@ use Rattle.machine.specs.Meaning.{exec}
 use Rattle.checker.specs.Checks.{checkUnder, codeOf, instructionOf, also}
 use Rattle.machine.specs.Runs.{startUnder, startOf, runOf}
 use Rattle.machine.specs.declared.runs.Run.{Run}
-use Rattle.compiler.specs.Translation.{bitsToWrite, rowBits, ifSet, marks, liveBefore, column}
+use Rattle.programs.specs.Width.{bitsToWrite, rowBits}
+use Rattle.compiler.specs.Translation.{ifSet, marks, liveBefore, column}
 use Rattle.compiler.specs.Translation.{translation, program, compiled, compileUnder, compileOf}
 use Rattle.walk.specs.Walk.{at, scan, then, walk, drawn, used, Spending, walkUnder, walkOf}
 use Rattle.lanes.specs.Samples.{code}
@@ -78,7 +79,7 @@ two-rows = 0x0a ∷ 0 ∷ 0x20 ∷ 0 ∷ 2 ∷ 0 ∷ 1 ∷ 0 ∷ 0x80 ∷ 0x80 �
 
 -- the program of the listing, for rows 1, 1 of one column
 listed : Program
-listed = record { registers = 10; inputs = 1; outputs = 2; count = 12 }
+listed = record { registers = 10; inputs = 1; outputs = 2; rows = 2; count = 12 }
 
 listing : List Instruction
 listing =

@@ -18,10 +18,10 @@ use Rattle.machine.specs.Runs.{startOf}
 use Rattle.drawing.specs.Drawing.{drawnUnder, drawnWith, drawOf, drawSignedOf}
 use Rattle.engine.specs.Demand2.{compiled-is-accepted}
 use Rattle.engine.specs.Batches.{slicedWords, drawnAt, batch-samples, batch-signed}
-use Rattle.compiler.specs.Compiled.{inputs-are}
+use Rattle.compiler.specs.Compiled.{inputs-are, rows-are}
 
 -- words of the engine's own, as many as are asked for
-own : (n : ℕ) → n ≤ length {A = ℕ} (replicate n 0)
+pub own : (n : ℕ) → n ≤ length {A = ℕ} (replicate n 0)
 own n = omega (arith, length-replicate {A = ℕ} n 0)
 
 module _ (file : List ℕ) (M : Matrix) (e : matrixOf file ≡ gives M) (strings : List ℕ)
@@ -33,13 +33,15 @@ module _ (file : List ℕ) (M : Matrix) (e : matrixOf file ≡ gives M) (strings
   outputs = replicate (program M .outputs) 0
 
   -- a drawing is a start on the sliced strings, then the outputs read
-  drawing-is : {A : Type 0} (read : List ℕ → Outcome A) → drawnWith (compiled M) strings room read ≡
-      (startOf (compiled M) (slicedWords (M .columns) strings) registers outputs (program M .count) >>= (λ x. read (x .state .outputs)))
+  drawing-is : {A : Type 0} (read : ℕ → List ℕ → Outcome A) → drawnWith (compiled M) strings room read ≡
+      (startOf (compiled M) (slicedWords (M .columns) strings) registers outputs (program M .count) >>=
+      (λ x. read (M .rows) (x .state .outputs)))
   unfolding drawnUnder
   drawing-is read =
       rw (
         compiled-is-accepted file M e,
         inputs-are M,
+        rows-are M,
         slice-gives (M .columns) strings (M .columns) (sym sound) (omega arith),
         le-ltb room lanes space,
       )

@@ -73,7 +73,7 @@ unfolding resumeUnder
 resume-through inputs registers outputs position budget = record { rest = _; goes-on = λ file. refl }
 
 -- drawing starts the program that it has checked, with any way of reading the outputs
-module _ {A : Type 0} (strings : List ℕ) (room : ℕ) (read : List ℕ → Outcome A) where
+module _ {A : Type 0} (strings : List ℕ) (room : ℕ) (read : ℕ → List ℕ → Outcome A) where
   onWords : (p : Program) (words : List ℕ) →
       Through checkOf (λ file. startOf file words (replicate (p .registers) 0) (replicate (p .outputs) 0) (p .count))
   onWords p words = start-through words (replicate (p .registers) 0) (replicate (p .outputs) 0) (p .count)
@@ -84,7 +84,7 @@ module _ {A : Type 0} (strings : List ℕ) (room : ℕ) (read : List ℕ → Out
     words ← sliceOf (c .program .inputs) strings (c .program .inputs)
     refuse 13 (ltb room lanes)
     e ← onWords (c .program) words .rest c
-    read (e .state .outputs)
+    read (c .program .rows) (e .state .outputs)
 
   pub draw-through : Through checkOf (λ file. drawnWith file strings room read)
   unfolding drawnUnder afterCheck

@@ -8,6 +8,7 @@ use lib.ListN.{length, getD}
 use Rattle.laws.specs.Words.{bitAt}
 use Rattle.laws.specs.Lists.{upto, getD-upto}
 use Rattle.laws.specs.Outcome.{Outcome, refused, gives, mapped}
+use Rattle.programs.specs.Header.{numbersOf}
 use Rattle.programs.specs.declared.description.Program.{Program}
 use Rattle.machine.specs.Runs.{startOf}
 use Rattle.walk.specs.Walk.{Answer, sample, missed}
@@ -38,9 +39,11 @@ pub record Fair (p : Program) (string : List ℕ) (c : Choice) : Type 0 where
   pub outputs-there : p .outputs ≤ length (c .outputs)
   pub enough : p .count ≤ c .budget
 
--- what the program file gives then: the sample, or the miss, of that lane of the outputs after the start
+-- what the program file gives then: the sample, or the miss, of that lane of the outputs after the start, of the rows that its header says
 unfoldable pub given : List ℕ → Choice → Outcome Answer
-given file c = mapped (λ e. sampleOf (e .state .outputs) (c .lane)) (startOf file (c .inputs) (c .registers) (c .outputs) (c .budget))
+given file c =
+    mapped (λ e. sampleOf (numbersOf file .rows) (e .state .outputs) (c .lane))
+    (startOf file (c .inputs) (c .registers) (c .outputs) (c .budget))
 
 -- whether sample v is given, and whether it misses
 unfoldable pub says : ℕ → Outcome Answer → Bool

@@ -1,21 +1,30 @@
 -- A lane of a compiled program's words gives what the walk draws on the string that the lane carries. Assumes nothing.
-use Prim.Native.Nat.{ℕ, _+_, _-_, _^_}
-use mathlib.Core.Path.{_≡_, sym, ap, _∙_}
+use Prim.Native.Nat.{ℕ, _+_, _-_, _<_}
+use mathlib.Core.Path.{_≡_, refl, sym, ap, _∙_}
+use mathlib.Core.Bool.{true}
 use mathlib.Core.List.{List, map}
 use native.Mathlib.Omega.{arith}
 use lib.ListN.{length, take, getD, length-replicate, length-map, List·getD-map}
 use lib.Seq.{take-length}
+use Rattle.laws.specs.Tests.{never}
 use Rattle.laws.specs.Words.{bitAt, bitAt-lt, bitAt-zero}
 use Rattle.laws.specs.Lists.{upto, upto-eq, take-is}
 use Rattle.laws.specs.Outcome.{gives, mapped}
 use Rattle.files.specs.Matrix.{Matrix, Accepted}
-use Rattle.machine.specs.Meaning.{wordGates, bitGates, exec-long}
+use Rattle.machine.specs.Meaning.{wordGates, bitGates, exec, exec-long}
 use Rattle.machine.specs.Runs.{Ended, startOf, startOn}
 use Rattle.machine.specs.LaneLaw.{lane, lane-start, mapEnded}
-use Rattle.walk.specs.Walk.{drawn, answerOf}
-use Rattle.lanes.specs.Samples.{sampleOf, laneHits, spelled}
-use Rattle.compiler.specs.Compiled.{inputs-are, outputs-are}
-use Rattle.compiler.specs.Translation.{translation, program, compiled, rowBits}
+use Rattle.walk.specs.Walk.{sample, drawn, answerOf, isMiss}
+use Rattle.walk.specs.Theorems.{hit-inside}
+use Rattle.walk.specs.declared.Drawn.{Drawn}
+use Rattle.walk.specs.declared.Drawn.the-variants.{Hit as hit, Miss as miss}
+use Rattle.lanes.specs.Samples.{laneHits, spelled, laneSays, sampleOf, code}
+use Rattle.lanes.specs.Lanes.{lane-same}
+use Rattle.programs.specs.Width.{rowBits}
+use Rattle.programs.specs.Limits.{suited}
+use Rattle.programs.specs.Reading.{suited-holds}
+use Rattle.compiler.specs.Compiled.{inputs-are, outputs-are, header-rows}
+use Rattle.compiler.specs.Translation.{translation, program, compiled}
 use Rattle.compiler.specs.Computes.{givenBy, laneInputs}
 use Rattle.compiler.specs.Computes.{start-compiled, start-gives}
 use Rattle.machine.specs.Calls.{cleared}
@@ -27,8 +36,8 @@ getD-lane j xs i = ap (getD (map (lane j) xs) i) (sym (bitAt-zero j)) ∙ List·
 
 -- the sample that a lane of the output words spells is the one that the lane's bits give
 lane-given : (outputs : List ℕ) (j k : ℕ) → length outputs ≡ 1 + k →
-    sampleOf outputs j ≡ givenBy k (λ o. bitAt (getD outputs o 0) j)
-unfolding sampleOf laneHits spelled givenBy
+    laneSays outputs j ≡ givenBy k (λ o. bitAt (getD outputs o 0) j)
+unfolding laneSays laneHits spelled givenBy
 lane-given outputs j k e =
     let m : length outputs - 1 ≡ k = omega arith in
     rw m
@@ -40,14 +49,27 @@ given-eq k f g e = ap (givenBy k) (mathlib.Core.Path.fun-ext e)
 string-is : (n : ℕ) (s : List ℕ) → length s ≡ n → upto n (λ i. getD s i 0) ≡ s
 string-is n s e = sym (take-is 0 n s (omega arith)) ∙ (ap (λ (k : ℕ). take k s) (sym e) ∙ take-length s)
 
+-- what a walk hits is a row
+drawn-row : (M : Matrix) (s : List ℕ) (v : ℕ) (d : Drawn) → drawn M s ≡ d → answerOf d ≡ sample v → v < M .rows
+drawn-row M s v (hit u c) e q =
+    let is : u ≡ v = ap code q in
+    omega (arith, hit-inside M s u c e .0)
+drawn-row M s v miss e q = never (sym (ap isMiss q))
+
 -- ---- a start of a compiled program on a fair choice
 -- where it ends: with the hit and the bits of a row number in its outputs
 pub record Starts (M : Matrix) (c : Choice) : Type 0 where
   pub ended : Ended ℕ
   pub is : startOf (compiled M) (c .inputs) (c .registers) (c .outputs) (c .budget) ≡ gives ended
   pub long : length (ended .state .outputs) ≡ 1 + rowBits (M .rows)
+  pub suits : suited (M .rows) (length (ended .state .outputs)) ≡ true
 
 module _ (M : Matrix) (a : Accepted M) (s : List ℕ) (whole-string : length s ≡ M .columns) (c : Choice) (f : Fair (program M) s c) where
+  abbrev many : length (exec wordGates (c .inputs) (translation M) (cleared wordGates (program M)) .outputs) ≡ 1 + rowBits (M .rows)
+  many =
+      exec-long wordGates (c .inputs) (translation M) (cleared wordGates (program M)) .1 ∙
+      (length-replicate {A = ℕ} (program M .outputs) 0 ∙ outputs-are M)
+
   pub starts : Starts M c
   starts =
       record {
@@ -55,9 +77,8 @@ module _ (M : Matrix) (a : Accepted M) (s : List ℕ) (whole-string : length s �
         is =
             start-compiled wordGates M a (c .inputs) (c .registers) (c .outputs) (c .budget) (f .inputs-there) (f .registers-there)
             (f .outputs-there) (f .enough);
-        long =
-            exec-long wordGates (c .inputs) (translation M) (cleared wordGates (program M)) .1 ∙
-            (length-replicate {A = ℕ} (program M .outputs) 0 ∙ outputs-are M);
+        long = many;
+        suits = suited-holds (M .rows) _ (a .some-rows) (a .few-rows) many;
       }
 
   abbrev left : List ℕ
@@ -91,14 +112,21 @@ module _ (M : Matrix) (a : Accepted M) (s : List ℕ) (whole-string : length s �
       (mapEnded (lane (c .lane)) (starts .ended)) lane-is ∙
       ap (λ (l : List ℕ). answerOf (drawn M l)) lane-carries
 
-  -- so does the lane of the output words
-  pub lane-says : sampleOf left (c .lane) ≡ answerOf (drawn M s)
-  lane-says =
+  -- so does the lane of the output words, whatever number it spells
+  pub lane-said : laneSays left (c .lane) ≡ answerOf (drawn M s)
+  lane-said =
       lane-given left (c .lane) (rowBits (M .rows)) (starts .long) ∙
       (given-eq (rowBits (M .rows)) (λ o. bitAt (getD left o 0) (c .lane)) (λ o. getD (projected left) o 0)
       (λ o. sym (getD-lane (c .lane) left o)) ∙
       bits-give)
 
+  -- which is always below the matrix's rows, so that reading it with these changes nothing (02, order 10)
+  pub lane-as-said : sampleOf (M .rows) left (c .lane) ≡ laneSays left (c .lane)
+  lane-as-said = lane-same (M .rows) left (c .lane) (λ v e. drawn-row M s v (drawn M s) refl (sym lane-said ∙ e))
+
+  pub lane-says : sampleOf (M .rows) left (c .lane) ≡ answerOf (drawn M s)
+  lane-says = lane-as-said ∙ lane-said
+
   pub lane-draws : given (compiled M) c ≡ gives (answerOf (drawn M s))
   unfolding given
-  lane-draws = rw (starts .is) (ap gives lane-says)
+  lane-draws = rw (starts .is, header-rows M a) (ap gives lane-says)

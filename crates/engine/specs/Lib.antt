@@ -5,6 +5,7 @@ pub mod Demand2
 pub mod Demand3
 pub mod Batches
 pub mod Draws
+pub mod Rows
 pub mod Choices
 pub mod Values
 pub mod Parts

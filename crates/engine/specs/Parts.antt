@@ -16,7 +16,6 @@ use Rattle.laws.specs.Digits.{number-zero}
 use Rattle.laws.specs.Words.{bitAt}
 use Rattle.laws.specs.Lists.{Each, each-append, each-map, each-more, upto, getD-upto}
 use Rattle.laws.specs.Outcome.{Outcome, refused, gives, mapped, _>>=_}
-use Rattle.fields.specs.Limits.{outside, inside}
 use Rattle.files.specs.Matrix.{Matrix, Accepted, bit, p, total}
 use Rattle.files.specs.Files.{matrixOf}
 use Rattle.files.specs.RoundTrip.{read-accepted}
@@ -26,12 +25,11 @@ use Rattle.walk.specs.declared.Drawn.the-variants.{Hit as hit, Miss as miss}
 use Rattle.walk.specs.Strings.{Bits, strings, strings-bits, strings-many, strings-once, over, one-if, count, over-append, over-map}
 use Rattle.walk.specs.Strings.{over-all, over-none, over-eq, over-bits, count-both}
 use Rattle.walk.specs.Theorems.{hit-inside, hits-row, misses-rest}
-use Rattle.programs.specs.Limits.{most-outputs}
 use Rattle.machine.specs.Runs.{startOf}
 use Rattle.lanes.specs.Slicing.{lanes}
 use Rattle.lanes.specs.Samples.{negatedIf, signedCode, signedSamplesOf, sampleOf, lanes-give}
 use Rattle.lanes.specs.Lanes.{Small, distance}
-use Rattle.compiler.specs.Width.{few-bits}
+use Rattle.compiler.specs.Compiled.{header-rows}
 use Rattle.compiler.specs.Translation.{program, compiled}
 use Rattle.combining.specs.Integers.{sameZ, sameZ-other}
 use Rattle.combining.specs.Reading.{code-sample, read-samples}
@@ -152,7 +150,7 @@ plainPart T q =
 abbrev pub readOf : (T : Table) (q : Pick) → Chosen T q → ℕ → Outcome (List ℤ)
 readOf T q c room =
     startOf (compiled (T .matrix)) (c .choice .inputs) (c .choice .registers) (c .choice .outputs) (c .choice .budget) >>=
-    (λ e. signedSamplesOf (e .state .outputs) (c .word) room)
+    (λ e. signedSamplesOf (T .matrix .rows) (e .state .outputs) (c .word) room)
 
 accepts : (T : Table) → Accepted (T .matrix)
 accepts T = read-accepted (T .file) (T .matrix) (T .accepted)
@@ -175,15 +173,12 @@ module _ (T : Table) (q : Pick) (c : Chosen T q) (h : Picked (T .matrix .columns
       let f = c .fair h in
       let s = starts M a (q .string) (h .bits .long) (c .choice) f in
       let out = s .ended .state .outputs in
-      let few : outside most-outputs (length out) ≡ false =
-      inside most-outputs (length out) (omega (arith, s .long))
-      (omega (arith, s .long, few-bits (M .rows) (a .few-rows))) in
-      let code : ℕ → ℤ = λ j. signedCode (bitAt (c .word) j) (sampleOf out j) in
-      let laid = lanes-give out room code few space in (
+      let code : ℕ → ℤ = λ j. signedCode (bitAt (c .word) j) (sampleOf (M .rows) out j) in
+      let laid = lanes-give (M .rows) out room code (s .suits) space in (
         upto lanes code,
         rw (s .is) laid,
-        read-samples out (c .word) room (upto lanes code) laid,
-        rw (s .is) (ap gives (sym (getD-upto lanes code (c .choice .lane) (pos 0) (f .in-word)))),
+        read-samples (M .rows) out (c .word) room (upto lanes code) laid,
+        rw (s .is, header-rows M a) (ap gives (sym (getD-upto lanes code (c .choice .lane) (pos 0) (f .in-word)))),
       )
 
 -- ---- every row's strings, also of rows that are not there

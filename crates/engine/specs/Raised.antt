@@ -1,5 +1,6 @@
 -- 02, order 8, of everything that takes columns, inputs or instructions: the definitions are told the limits, and raising one changes an
--- answer only where it was 3 for that limit. So whatever is within 01's limits is answered as it was under them. Assumes nothing.
+-- answer only where it was 3 for that limit. So whatever is within 01's limits is answered as under them, with the header that programs
+-- now have (02, order 10). Assumes nothing.
 use Prim.Native.Nat.{ℕ, _≤_, _<_}
 use mathlib.Core.Path.{_≡_, refl, sym, ap, _∙_}
 use mathlib.Core.Bool.{Bool, false, not, _||_}
@@ -98,10 +99,10 @@ pub record ProgramAsBefore (file : List ℕ) : Type 0 where
       resumeUnder wordGates inputs-before instructions-before file inputs registers outputs position budget
   pub draws : (strings : List ℕ) (room : ℕ) →
       drawOf file strings room ≡
-      drawnUnder columns-before inputs-before instructions-before file strings room (λ outputs. samplesOf outputs room)
+      drawnUnder columns-before inputs-before instructions-before file strings room (λ rows outputs. samplesOf rows outputs room)
   pub draws-signed : (strings : List ℕ) (sign room : ℕ) →
       drawSignedOf file strings sign room ≡
-      drawnUnder columns-before inputs-before instructions-before file strings room (λ outputs. signedSamplesOf outputs sign room)
+      drawnUnder columns-before inputs-before instructions-before file strings room (λ rows outputs. signedSamplesOf rows outputs sign room)
 
 -- ---- raising the limit of columns, where these are told
 module _ (most more n : ℕ) (h : most ≤ more) where
@@ -237,7 +238,8 @@ module _ (wide wider long longer : ℕ) (h : wide ≤ wider) (l : long ≤ longe
   resume-raised inputs registers outputs position budget = from-program _
 
   -- drawing slices as many columns as the program has inputs: where at least as many columns are allowed as inputs, that is never 3
-  module _ (most more : ℕ) (a : wide ≤ most) (b : most ≤ more) {A : Type 0} (strings : List ℕ) (room : ℕ) (read : List ℕ → Outcome A) where
+  module _ (most more : ℕ) (a : wide ≤ most) (b : most ≤ more) {A : Type 0} (strings : List ℕ) (room : ℕ)
+      (read : ℕ → List ℕ → Outcome A) where
     sliced-alike : (c : Code) → checkUnder wide long file ≡ gives c →
         let n = c .program .inputs in
         sliceUnder more n strings n ≡ sliceUnder most n strings n
@@ -337,9 +339,9 @@ module _ (p : Program) (few : p .inputs ≤ inputs-before) (short : p .count ≤
 module _ (file : List ℕ) (few : numbersOf file .inputs ≤ inputs-before) (short : numbersOf file .count ≤ instructions-before) where
   as-before : {A : Type 0} {before now : Outcome A} →
       Raised (LargerFile inputs-before most-inputs instructions-before most-instructions file) 3 before now → now ≡ before
-  as-before r = raised-elsewhere r (λ x. not-larger (numbersOf file) few short (x .2))
+  as-before r = raised-elsewhere r (λ x. not-larger (numbersOf file) few short (x .3))
 
-  draws-alike : {A : Type 0} (strings : List ℕ) (room : ℕ) (read : List ℕ → Outcome A) →
+  draws-alike : {A : Type 0} (strings : List ℕ) (room : ℕ) (read : ℕ → List ℕ → Outcome A) →
       drawnWith file strings room read ≡ drawnUnder columns-before inputs-before instructions-before file strings room read
   draws-alike strings room read =
       as-before
@@ -362,8 +364,8 @@ module _ (file : List ℕ) (few : numbersOf file .inputs ≤ inputs-before) (sho
             as-before
             (resume-raised inputs-before most-inputs instructions-before most-instructions (omega arith) (omega arith) file inputs registers
             outputs position budget);
-        draws = λ strings room. draws-alike strings room (λ outputs. samplesOf outputs room);
-        draws-signed = λ strings sign room. draws-alike strings room (λ outputs. signedSamplesOf outputs sign room);
+        draws = λ strings room. draws-alike strings room (λ rows outputs. samplesOf rows outputs room);
+        draws-signed = λ strings sign room. draws-alike strings room (λ rows outputs. signedSamplesOf rows outputs sign room);
       }
 
 -- and so every program that was accepted

@@ -81,7 +81,7 @@ module _ (file : List ℕ) (M : Matrix) (e : matrixOf file ≡ gives M) (space :
     pub wanted-stops : (inputs registers outputs : List ℕ) → ((i : ℕ) → getD inputs i 0 < 2 ^ lanes) → program M .inputs ≤ length inputs →
         program M .registers ≤ length registers → program M .outputs ≤ length outputs → (b : ℕ) (bs : List ℕ) (j : ℕ) → b < 2 ^ 32 →
         program M .count ≤ together b (allBudgets bs) → j < lanes → laneBits (M .columns) inputs j ≡ string →
-        mapped (λ x. sampleOf (take (program M .outputs) (x .outputs)) j)
+        mapped (λ x. sampleOf (M .rows) (take (program M .outputs) (x .outputs)) j)
         (started wordGates program′ inputs registers outputs b >>= (λ l. onward wordGates program′ inputs l bs)) ≡
         gives (sample row)
     wanted-stops inputs registers outputs small i r o b bs j h enough jl carries =

@@ -4,36 +4,29 @@ use Prim.Native.Nat.{ℕ, _≤_, _<_}
 use mathlib.Core.Path.{_≡_, ap}
 use mathlib.Core.Bool.{false}
 use mathlib.Core.List.{List}
-use lib.Dec.{ltb}
 use lib.IntN.{ℤ, pos}
-use lib.ListN.{replicate}
 use Rattle.laws.specs.Words.{bitAt}
 use Rattle.laws.specs.Lists.{upto, upto-eq, getD-upto}
-use Rattle.laws.specs.Outcome.{Outcome, gives, _>>=_, bound, passed}
+use Rattle.laws.specs.Outcome.{Outcome, gives, _>>=_}
 use Rattle.fields.specs.Strings.{stringsOf}
-use Rattle.checker.specs.Checks.{checkOf}
-use Rattle.machine.specs.Runs.{startOf}
-use Rattle.lanes.specs.Slicing.{lanes, sliceOf}
-use Rattle.lanes.specs.Samples.{signedCode}
+use Rattle.programs.specs.Header.{numbersOf}
+use Rattle.lanes.specs.Slicing.{lanes}
+use Rattle.lanes.specs.Samples.{signedCode, signedSamplesOf}
 use Rattle.combining.specs.Combination.{entry, resultOf, Samples}
 use Rattle.combining.specs.Combining.{unfit, combineOf}
 use Rattle.combining.specs.Reading.{read-samples, samples-combined}
 use Rattle.compiler.specs.Translation.{compiled}
-use Rattle.drawing.specs.Drawing.{drawnUnder, drawSignedOf}
+use Rattle.drawing.specs.Drawing.{drawSignedOf}
 use Rattle.engine.specs.Batches.{drawnAt}
 use Rattle.engine.specs.Draws.{draw-signed-walks}
+use Rattle.engine.specs.Rows.{draw-reads}
 use Rattle.engine.specs.Parts.{Table}
 
 -- ---- lists drawn in one call
 pub draw-samples : (program strings : List ℕ) (sign room : ℕ) (xs : List ℤ) → drawSignedOf program strings sign room ≡ gives xs → Samples xs
-unfolding drawnUnder
 draw-samples program strings sign room xs e =
-    let a = bound (checkOf program) _ xs e in
-    let p = a .0 .program in
-    let b = bound (sliceOf (p .inputs) strings (p .inputs)) _ xs (a .2) in
-    let c = passed 13 (ltb room lanes) _ xs (b .2) in
-    let d = bound (startOf program (b .0) (replicate (p .registers) 0) (replicate (p .outputs) 0) (p .count)) _ xs (c .1) in
-    read-samples (d .0 .state .outputs) sign room xs (d .2)
+    let (outputs, read) = draw-reads program strings room (λ rows outputs. signedSamplesOf rows outputs sign room) xs e in
+    read-samples (numbersOf program .rows) outputs sign room xs read
 
 -- ---- batches
 -- an accepted matrix, 64 sound strings, a sign word, and room for the samples

@@ -4,7 +4,7 @@ use mathlib.Core.Path.{_≡_, refl, sym, _∙_, subst}
 use mathlib.Core.Bool.{Bool, true, false, not, _&&_}
 use mathlib.Core.List.{List, [], _∷_}
 use mathlib.Core.Logic.{_≢_, _⊎_, ⊎-elim}
-use native.Mathlib.Nat.{eq-or-lt-of-le, mul-le-mul-right, mod-lt, zero-mod, add-mod-right, div-add-mod'}
+use native.Mathlib.Nat.{eq-or-lt-of-le, mul-le-mul-right, mod-lt, zero-mod, zero-div, zero-mul, add-mod-right, div-add-mod'}
 use native.Mathlib.Nat.{div-eq-of-lt, div-eq-of-lt-le, div-eq-sub-div}
 use native.Mathlib.Omega.{arith}
 use borrow.Author.Tests.{eqb-true, ltb-true, not-true, not-false}
@@ -23,6 +23,10 @@ use Rattle.laws.specs.Lists.{upto, row-end, length-upto, getD-upto, all-set, al
 abbrev pub side : ℕ
 side = 64
 
+-- the rows that may be set in a table whose others are zero
+abbrev pub front : ℕ
+front = 16
+
 -- the table with row and column exchanged: bit c of row r is bit r of row c
 unfoldable pub transposed : List ℕ → List ℕ
 transposed rows = upto side (λ r. pack side (λ c. bitAt (getD rows c 0) r))
@@ -31,6 +35,10 @@ transposed rows = upto side (λ r. pack side (λ c. bitAt (getD rows c 0) r))
 pub record Table (rows : List ℕ) : Type 0 where
   pub long : length rows ≡ side
   pub words : (r : ℕ) → getD rows r 0 < 2 ^ 64
+
+-- the rows from k on are zero
+pub record Front (k : ℕ) (rows : List ℕ) : Type 0 where
+  pub clear : (r : ℕ) → k ≤ r → getD rows r 0 ≡ 0
 
 pub transposed-row : (rows : List ℕ) (r : ℕ) → r < side → getD (transposed rows) r 0 ≡ pack side (λ c. bitAt (getD rows c 0) r)
 unfolding transposed
@@ -42,6 +50,12 @@ blank-table = record { long = refl; words = all-replicate (λ x. x < 2 ^ 64) 0 s
 pub table-set : (rows : List ℕ) (k x : ℕ) → x < 2 ^ 64 → Table rows → Table (set rows k x)
 table-set rows k x h t =
     record { long = length-set rows k x ∙ t .long; words = all-set (λ x. x < 2 ^ 64) 0 rows k x (t .words) h }
+
+pub blank-front : (k : ℕ) → Front k (replicate side 0)
+blank-front k = record { clear = λ r a. all-replicate (λ x. x ≡ 0) 0 side refl r }
+
+pub front-set : (rows : List ℕ) (n k x : ℕ) → k < n → Front n rows → Front n (set rows k x)
+front-set rows n k x h f = record { clear = λ r a. getD-set-other rows k r x 0 (omega arith) ∙ f .clear r a }
 
 -- ---- halves of blocks
 -- Places in blocks of 2 d: in which half of its block place c stands.
@@ -224,6 +238,47 @@ crossed-more d m k i old now z a b l p =
 pub crossed-done : (d m k i e : ℕ) (old now : List ℕ) → i ≤ e → e ≤ i → Crossed d m k i old now → Crossed d m k e old now
 crossed-done d m k i e old now = reached (λ n. Crossed d m k n old now) i e
 
+-- two rows that are zero stay so
+cross-zero : (d m : ℕ) → crossing d m 0 0 ≡ 0
+cross-zero d m = rw (zero-div (2 ^ d)) refl
+
+low-zero : (d m : ℕ) → lowOf d m 0 0 ≡ 0
+low-zero d m = rw (cross-zero d m, zero-mul (2 ^ d)) refl
+
+high-zero : (d m : ℕ) → highOf d m 0 0 ≡ 0
+high-zero d m = rw (cross-zero d m) refl
+
+-- in the block at row 0, the rows from n on of either half are zero
+pub record Idle (d n : ℕ) (rows : List ℕ) : Type 0 where
+  pub low : (r : ℕ) → n ≤ r → r < d → getD rows r 0 ≡ 0
+  pub high : (r : ℕ) → n ≤ r → r < d → getD rows (r + d) 0 ≡ 0
+
+pub idle-none : (d : ℕ) (rows : List ℕ) → Idle d d rows
+idle-none d rows = record { low = λ r a b. absurd (omega arith); high = λ r a b. absurd (omega arith) }
+
+pub idle-front : (d n : ℕ) (rows : List ℕ) → Front n rows → Idle d n rows
+idle-front d n rows f = record { low = λ r a b. f .clear r a; high = λ r a b. f .clear (r + d) (omega arith) }
+
+-- so of that block, exchanged up to n, all rows are exchanged
+crossed-idle : (d m n : ℕ) (old now : List ℕ) → n ≤ d → Idle d n old → Crossed d m 0 (0 + n) old now → Crossed d m 0 (0 + d) old now
+crossed-idle d m n old now h f p =
+    record {
+      long = p .long;
+      low = λ r a b.
+          ⊎-elim (λ (l : r < n). p .low r a (omega arith))
+          (λ (l : n ≤ r).
+          p .between r (omega arith) b ∙ rw (f .low r l (omega arith), f .high r l (omega arith)) (sym (low-zero d m)))
+          (lt-or-ge r n);
+      high = λ r a b.
+          ⊎-elim (λ (l : r < n). p .high r a (omega arith))
+          (λ (l : n ≤ r).
+          p .after (r + d) (omega arith) ∙ rw (f .low r l (omega arith), f .high r l (omega arith)) (sym (high-zero d m)))
+          (lt-or-ge r n);
+      before = p .before;
+      between = λ r a b. absurd (omega arith);
+      after = λ r a. p .after r (omega arith);
+    }
+
 -- ---- the loop over the blocks
 -- A round exchanges the halves of row and column. The bit that it brings to row r and column c was in row `origin d r c` and, the two
 -- being treated alike, in column `origin d c r`.
@@ -315,6 +370,12 @@ module _ {d m : ℕ} (round : Round d m) (k : ℕ) (old mid now : List ℕ) (e :
 
 pub exchanged-done : (d k : ℕ) (old now : List ℕ) → k ≤ side → side ≤ k → Exchanged d k old now → Exchanged d side old now
 exchanged-done d k old now = reached (λ n. Exchanged d n old now) k side
+
+-- the first round is one block, which fills the table
+pub first-exchanged : {m : ℕ} (n : ℕ) (old now : List ℕ) → Round 32 m → n ≤ 32 → Table old → Idle 32 n old →
+    Crossed 32 m 0 (0 + n) old now → Exchanged 32 side old now
+first-exchanged {m} n old now round h t f p =
+    exchanged-more round 0 old old now (zero-mod 64) (exchanged-none 32 old t) (crossed-idle 32 m n old now h f p)
 
 -- ---- six rounds
 -- one round after another, the last first

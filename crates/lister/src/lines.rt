@@ -45,11 +45,12 @@ pub(crate) fn print_line(position: u32, i: Instruction) {
     print_newline();
 }
 
-// The first line: registers, inputs, outputs, count.
+// The first line: registers, inputs, outputs, rows, count.
 pub(crate) fn print_header(p: Program) {
     io::print_decimal(STDOUT_FILENO, p.registers as u64);
     print_next(p.inputs as u64);
     print_next(p.outputs as u64);
+    print_next(p.rows as u64);
     print_next(p.count as u64);
     print_newline();
 }

@@ -1,4 +1,4 @@
--- 01, "Files": the header of a program, its bytes, and reading one at the front of a file. Assumes nothing.
+-- 01, "Files", with 02, order 10: the header of a program, its bytes, and reading one at the front of a file. Assumes nothing.
 use Prim.Native.Nat.{ℕ, _+_, _*_, _/_, _%_}
 use mathlib.Core.Bool.{not}
 use mathlib.Core.List.{List, [], _∷_, _++_}
@@ -17,15 +17,16 @@ use Rattle.programs.specs.declared.description.Instruction.{Instruction}
 
 -- the length and the kind of a program's header
 abbrev pub header-length : ℕ
-header-length = 14
+header-length = 16
 
 abbrev pub header-kind : ℕ
 header-kind = 16
 
--- a header: length, kind, registers, inputs, outputs, and the 32-bit count, its low field first
+-- a header: length, kind, registers, inputs, outputs, rows, and the 32-bit count, its low field first
 unfoldable pub headerBytes : Program → List ℕ
 headerBytes p =
-    recordBytes (header-length ∷ header-kind ∷ p .registers ∷ p .inputs ∷ p .outputs ∷ p .count % 65536 ∷ p .count / 65536 ∷ [])
+    recordBytes
+    (header-length ∷ header-kind ∷ p .registers ∷ p .inputs ∷ p .outputs ∷ p .rows ∷ p .count % 65536 ∷ p .count / 65536 ∷ [])
 
 -- the numbers that a header's fields say
 unfoldable pub numbersOf : List ℕ → Program
@@ -34,15 +35,16 @@ numbersOf file =
       registers = fieldOf file 4;
       inputs = fieldOf file 6;
       outputs = fieldOf file 8;
-      count = fieldOf file 10 + 65536 * fieldOf file 12;
+      rows = fieldOf file 10;
+      count = fieldOf file 12 + 65536 * fieldOf file 14;
     }
 
--- a header that is there and of its kind, with the numbers p, where at most `wide` inputs and `long` instructions are allowed: refusals 3
--- and 4
+-- a header that is there and of its kind, with the numbers p, where at most `wide` inputs and `long` instructions are allowed: its length
+-- is tried before its numbers (02, order 10)
 unfoldable pub limitsUnder : ℕ → ℕ → List ℕ → Program → Outcome Program
 limitsUnder wide long file p = do
-  refuse 3 (not (withinUnder wide long p))
   refuse 4 (not (eqb (fieldOf file 0) header-length))
+  refuse 3 (not (withinUnder wide long p))
   gives p
 
 -- the header at the front of a file, with these limits: where four bytes are there, the kind is tried before the length (02, order 3);
@@ -63,10 +65,10 @@ headerOf = headerUnder most-inputs most-instructions
 
 -- writing a header at the front of a buffer of `room` bytes, with these limits: the bytes that are laid down
 unfoldable pub writeHeaderUnder : ℕ → ℕ → Program → ℕ → Outcome (List ℕ)
-writeHeaderUnder wide long p room = do
-  refuse 3 (not (withinUnder wide long p))
+writeHeaderUnder wide long header room = do
+  refuse 3 (not (withinUnder wide long header))
   refuse 13 (ltb room header-length)
-  gives (headerBytes p)
+  gives (headerBytes header)
 
 -- at the limits of a program
 abbrev pub writeHeaderOf : Program → ℕ → Outcome (List ℕ)

@@ -124,14 +124,14 @@ header-reads-under wide long file p e =
     let c1 = passed 1 (ltb (length file) 4) _ p e in
     let c2 = passed 2 (not (eqb (fieldOf file 2) header-kind)) _ p (c1 .1) in
     let c3 = passed 1 (ltb (length file) header-length) _ p (c2 .1) in
-    let c4 = passed 3 (not (withinUnder wide long (numbersOf file))) _ p (c3 .1) in
-    let c5 = passed 4 (not (eqb (fieldOf file 0) header-length)) _ p (c4 .1) in
+    let c4 = passed 4 (not (eqb (fieldOf file 0) header-length)) _ p (c3 .1) in
+    let c5 = passed 3 (not (withinUnder wide long (numbersOf file))) _ p (c4 .1) in
     let q : numbersOf file ≡ p = gives-inj (c5 .1) in
     record {
       room = ltb-false (length file) header-length (c3 .0);
-      long = eqb-true (fieldOf file 0) header-length (not-false _ (c5 .0));
+      long = eqb-true (fieldOf file 0) header-length (not-false _ (c4 .0));
       kind = eqb-true (fieldOf file 2) header-kind (not-false _ (c2 .0));
-      inside = ap (withinUnder wide long) (sym q) ∙ not-false _ (c4 .0);
+      inside = ap (withinUnder wide long) (sym q) ∙ not-false _ (c5 .0);
       numbers = q;
     }
 
@@ -165,7 +165,8 @@ count-back x = omega arith
 
 numbers-written : (p : Program) (rest : List ℕ) → p ≡ numbersOf (headerBytes p ++ rest)
 unfolding headerBytes recordBytes numbersOf fieldOf
-numbers-written p rest = rw (field-back (p .registers), field-back (p .inputs), field-back (p .outputs), count-back (p .count))
+numbers-written p rest =
+    rw (field-back (p .registers), field-back (p .inputs), field-back (p .outputs), field-back (p .rows), count-back (p .count))
 
 pub header-written : (p : Program) (rest : List ℕ) → within p ≡ true → headerOf (headerBytes p ++ rest) ≡ gives p
 unfolding headerBytes recordBytes fieldOf limitsUnder
@@ -209,10 +210,13 @@ pub header-back : (file : List ℕ) (p : Program) → ((k : ℕ) → getD file k
 unfolding headerBytes numbersOf
 header-back file p byte e =
     let h = header-reads file p e in
-    let small = field-small file 10 (byte 10) (byte 11) in
-    let low : (fieldOf file 10 + 65536 * fieldOf file 12) % 65536 ≡ fieldOf file 10 = omega (arith, small) in
-    let high : (fieldOf file 10 + 65536 * fieldOf file 12) / 65536 ≡ fieldOf file 12 = omega (arith, small) in
-    rw (← h .numbers, low, high, ← h .kind, ← h .long) (record-back file byte 7 0 (h .room))
+    let small = field-small file 12 (byte 12) (byte 13) in
+    let low : (fieldOf file 12 + 65536 * fieldOf file 14) % 65536 ≡ fieldOf file 12 = omega (arith, small) in
+    let high : (fieldOf file 12 + 65536 * fieldOf file 14) / 65536 ≡ fieldOf file 14 = omega (arith, small) in
+    let fields : fieldsOf 8 0 file ≡
+    header-length ∷ header-kind ∷ p .registers ∷ p .inputs ∷ p .outputs ∷ p .rows ∷ p .count % 65536 ∷ p .count / 65536 ∷ [] =
+    rw (h .long, h .kind, ← h .numbers, low, high) in
+    rw fields at (record-back file byte 8 0 (h .room))
 
 -- ---- what the contracts of encode, decode, write_header and read_header cite
 -- the front of a file

@@ -1,4 +1,5 @@
 -- The description of a program, in the order in which one rests on another.
+pub mod Width
 pub mod Limits
 pub mod Records
 pub mod Instructions

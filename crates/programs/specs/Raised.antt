@@ -21,10 +21,11 @@ use Rattle.programs.specs.declared.description.Program.{Program}
 abbrev pub Larger : ℕ → ℕ → ℕ → ℕ → Program → Type 0
 Larger wide wider long longer p = (withinUnder wider longer p ≡ true) × ((wide < p .inputs) ⊎ (long < p .count))
 
--- a file with a header of the kind, and such numbers in it
+-- a file with a header of the kind and the length, and such numbers in it
 abbrev pub LargerFile : ℕ → ℕ → ℕ → ℕ → List ℕ → Type 0
 LargerFile wide wider long longer file =
-    (header-length ≤ length file) × (fieldOf file 2 ≡ header-kind) × Larger wide wider long longer (numbersOf file)
+    (header-length ≤ length file) × (fieldOf file 2 ≡ header-kind) × (fieldOf file 0 ≡ header-length) ×
+    Larger wide wider long longer (numbersOf file)
 
 -- numbers within some limits are so within others that allow as many inputs and instructions
 rebound : (wide long wider longer : ℕ) (p : Program) → WithinUnder wide long p → p .inputs ≤ wider → p .count ≤ longer →
@@ -38,6 +39,9 @@ rebound wide long wider longer p w i c =
       few-inputs = i;
       some-outputs = w .some-outputs;
       few-outputs = w .few-outputs;
+      some-rows = w .some-rows;
+      few-rows = w .few-rows;
+      outputs-suit = w .outputs-suit;
       few-instructions = c;
     })
 
@@ -103,9 +107,10 @@ module _ (wide wider long longer : ℕ) (h : wide ≤ wider) (l : long ≤ longe
     write-header-raised room = within-raised _
 
     limits-raised : (file : List ℕ) →
-        Raised (Larger wide wider long longer p) 3 (limitsUnder wide long file p) (limitsUnder wider longer file p)
+        Raised ((not (eqb (fieldOf file 0) header-length) ≡ false) × Larger wide wider long longer p) 3 (limitsUnder wide long file p)
+        (limitsUnder wider longer file p)
     unfolding limitsUnder
-    limits-raised file = within-raised _
+    limits-raised file = raised-behind 4 (not (eqb (fieldOf file 0) header-length)) (within-raised _)
 
   pub header-raised : (file : List ℕ) →
       Raised (LargerFile wide wider long longer file) 3 (headerUnder wide long file) (headerUnder wider longer file)
@@ -116,16 +121,20 @@ module _ (wide wider long longer : ℕ) (h : wide ≤ wider) (l : long ≤ longe
       (raised-behind 1 (ltb (length file) header-length) (limits-raised (numbersOf file) file)))) plainly
     where
       plainly : ((ltb (length file) 4 ≡ false) × ((not (eqb (fieldOf file 2) header-kind) ≡ false) ×
-          ((ltb (length file) header-length ≡ false) × Larger wide wider long longer (numbersOf file)))) ↔
-          LargerFile wide wider long longer file
+          ((ltb (length file) header-length ≡ false) × ((not (eqb (fieldOf file 0) header-length) ≡ false) ×
+          Larger wide wider long longer (numbersOf file))))) ↔ LargerFile wide wider long longer file
       plainly = (
         (λ t. (
           ltb-false (length file) header-length (t .1 .1 .0),
           eqb-true (fieldOf file 2) header-kind (not-false _ (t .1 .0)),
-          t .1 .1 .1,
+          eqb-true (fieldOf file 0) header-length (not-false _ (t .1 .1 .1 .0)),
+          t .1 .1 .1 .1,
         )),
         (λ x. (
           le-ltb (length file) 4 (omega (arith, x .0)),
-          (rw (eq-eqb (fieldOf file 2) header-kind (x .1)), (le-ltb (length file) header-length (x .0), x .2)),
+          (
+            rw (eq-eqb (fieldOf file 2) header-kind (x .1)),
+            (le-ltb (length file) header-length (x .0), (rw (eq-eqb (fieldOf file 0) header-length (x .2)), x .3)),
+          ),
         )),
       )

@@ -1,11 +1,11 @@
 -- The ways through the checks of an instruction and of a header, and what the limits say. Assumes nothing.
-use Prim.Native.Nat.{ℕ, _+_, _-_, _*_, _/_, _%_, _≤_, _<_}
+use Prim.Native.Nat.{ℕ, _+_, _-_, _*_, _/_, _%_, _^_, _≤_, _<_}
 use mathlib.Core.Path.{_≡_, refl, sym, ap, _∙_}
-use mathlib.Core.Bool.{true, false}
+use mathlib.Core.Bool.{Bool, true, false, cond, _&&_}
 use mathlib.Core.List.{List, [], _∷_}
 use native.Mathlib.Omega.{arith}
-use borrow.Author.Tests.{lt-ltb, le-ltb, ltb-false, le-leb, leb-true, eq-eqb, ne-eqb, not-true}
-use lib.Dec.{ltb}
+use borrow.Author.Tests.{lt-ltb, le-ltb, ltb-false, le-leb, leb-true, eq-eqb, ne-eqb, eqb-true, not-true}
+use lib.Dec.{eqb, ltb}
 use lib.ListN.{length, take, drop, length-drop}
 use Rattle.laws.specs.Tests.{both, neither}
 use Rattle.laws.specs.Lists.{rest-is}
@@ -13,7 +13,9 @@ use Rattle.laws.specs.Lay.{layAt, layAt-nothing}
 use Rattle.laws.specs.Outcome.{Outcome, refused, gives, mapped, laid, _>>=_}
 use Rattle.fields.specs.Fields.{fieldOf, fieldBytes}
 use Rattle.fields.specs.Limits.{outside}
-use Rattle.programs.specs.Limits.{most-registers, most-inputs, most-outputs, most-instructions, among, withinUnder, within}
+use Rattle.programs.specs.Width.{rowBits, ranged, few-bits}
+use Rattle.programs.specs.Limits.{most-registers, most-inputs, most-outputs, most-rows, most-instructions}
+use Rattle.programs.specs.Limits.{among, valueBits, suited, withinUnder, within}
 use Rattle.programs.specs.Records.{recordBytes, length-record, field-after}
 use Rattle.programs.specs.Instructions.{ofKind, sizedOf, kindOf, lengthOf, operandsOf, instructionBytes, encodeOf, decodeOf, decodeAt}
 use Rattle.programs.specs.Header.{header-length, header-kind, headerBytes, numbersOf}
@@ -39,17 +41,64 @@ pub record WithinUnder (wide long : ℕ) (p : Program) : Type 0 where
   pub few-inputs : p .inputs ≤ wide
   pub some-outputs : 1 ≤ p .outputs
   pub few-outputs : p .outputs ≤ most-outputs
+  pub some-rows : 1 ≤ p .rows
+  pub few-rows : p .rows ≤ most-rows
+  pub outputs-suit : p .outputs ≡ 1 + rowBits (p .rows)
   pub few-instructions : p .count ≤ long
+
+-- rows and outputs that suit each other
+module _ (rows outputs : ℕ) where
+  pub suited-means : suited rows outputs ≡ true → (1 ≤ rows) × (rows ≤ most-rows) × (outputs ≡ 1 + rowBits rows)
+  suited-means e =
+      let s = both (among most-rows rows) (eqb outputs (1 + rowBits rows)) e in
+      let r = among-means most-rows rows (s .0) in
+      (r .0, r .1, eqb-true outputs (1 + rowBits rows) (s .1))
+
+  pub suited-holds : 1 ≤ rows → rows ≤ most-rows → outputs ≡ 1 + rowBits rows → suited rows outputs ≡ true
+  suited-holds a b e = rw (among-limits most-rows rows a b, eq-eqb outputs (1 + rowBits rows) e)
+
+-- the value bits as code has them, by ranges
+module _ (rows : ℕ) where
+  pub bits-among : 1 ≤ rows → rows ≤ most-rows → valueBits rows ≡ rowBits rows
+  unfolding valueBits
+  bits-among a b = rw (among-limits most-rows rows a b)
+
+  pub bits-ranged : (k : ℕ) → 2 ^ k < 2 * rows → rows ≤ 2 ^ k → 1 ≤ rows → rows ≤ most-rows → k ≡ valueBits rows
+  bits-ranged k a b c d = ranged rows k a b ∙ sym (bits-among c d)
+
+  pub bits-below : rows < 1 → 0 ≡ valueBits rows
+  unfolding valueBits
+  bits-below h = rw (lt-ltb rows 1 h)
+
+  pub bits-above : 1 ≤ rows → most-rows < rows → 0 ≡ valueBits rows
+  unfolding valueBits
+  bits-above a h = rw (le-ltb rows 1 a, lt-ltb most-rows rows h)
+
+  pub bits-few : valueBits rows ≤ 7
+  unfolding valueBits
+  bits-few = go (among most-rows rows) refl
+    where
+      go : (b : Bool) → among most-rows rows ≡ b → cond b (rowBits rows) 0 ≤ 7
+      go true e = few-bits rows (among-means most-rows rows e .1)
+      go false e = omega arith
+
+  -- so code tries whether outputs suit them
+  pub suits : (outputs k : ℕ) (b : Bool) → b ≡ among most-rows rows → k ≡ valueBits rows → (b && eqb outputs (1 + k)) ≡ suited rows outputs
+  unfolding valueBits
+  suits outputs k true e q = rw (q, ← e)
+  suits outputs k false e q = rw (← e)
 
 module _ (wide long : ℕ) (p : Program) where
   pub under-means : withinUnder wide long p ≡ true → WithinUnder wide long p
   under-means e =
-      let abc = both _ _ e in
+      let abcd = both _ _ e in
+      let abc = both _ _ (abcd .0) in
       let ab = both _ _ (abc .0) in
       let a = both _ _ (ab .0) in
       let r = among-means most-registers (p .registers) (a .0) in
       let i = among-means wide (p .inputs) (a .1) in
       let o = among-means most-outputs (p .outputs) (ab .1) in
+      let s = suited-means (p .rows) (p .outputs) (abc .1) in
       record {
         some-registers = r .0;
         few-registers = r .1;
@@ -57,7 +106,10 @@ module _ (wide long : ℕ) (p : Program) where
         few-inputs = i .1;
         some-outputs = o .0;
         few-outputs = o .1;
-        few-instructions = leb-true (p .count) long (abc .1);
+        some-rows = s .0;
+        few-rows = s .1;
+        outputs-suit = s .2;
+        few-instructions = leb-true (p .count) long (abcd .1);
       }
 
   pub under-holds : WithinUnder wide long p → withinUnder wide long p ≡ true
@@ -66,6 +118,7 @@ module _ (wide long : ℕ) (p : Program) where
         among-limits most-registers (p .registers) (w .some-registers) (w .few-registers),
         among-limits wide (p .inputs) (w .some-inputs) (w .few-inputs),
         among-limits most-outputs (p .outputs) (w .some-outputs) (w .few-outputs),
+        suited-holds (p .rows) (p .outputs) (w .some-rows) (w .few-rows) (w .outputs-suit),
         le-leb (p .count) long (w .few-instructions),
       )
 
@@ -75,6 +128,16 @@ Within = WithinUnder most-inputs most-instructions
 
 pub within-means : (p : Program) → within p ≡ true → Within p
 within-means = under-means most-inputs most-instructions
+
+-- numbers whose rows and outputs do not suit each other are outside, whatever the others are
+pub within-not : (p : Program) → suited (p .rows) (p .outputs) ≡ false → within p ≡ false
+within-not p u = go (within p) refl
+  where
+    go : (b : Bool) → within p ≡ b → b ≡ false
+    go true e =
+        let w = within-means p e in
+        sym (suited-holds (p .rows) (p .outputs) (w .some-rows) (w .few-rows) (w .outputs-suit)) ∙ u
+    go false e = refl
 
 pub limits-hold : (p : Program) → Within p → within p ≡ true
 limits-hold = under-holds most-inputs most-instructions
@@ -145,7 +208,7 @@ module _ (file : List ℕ) where
   unfolding headerUnder
   header-short a k h = rw (le-ltb (length file) 4 a, eq-eqb (fieldOf file 2) header-kind k, lt-ltb (length file) header-length h)
 
--- a file of the kind that has room for a header is tried by what its numbers are
+-- a file of the kind that has room for a header is tried by its length field, then by what its numbers are
 pub header-numbers : (file : List ℕ) → header-length ≤ length file → fieldOf file 2 ≡ header-kind → (p : Program) → p ≡ numbersOf file →
     headerOf file ≡ limitsOf file p
 unfolding headerUnder
@@ -166,17 +229,22 @@ module _ (p : Program) (room : ℕ) where
   unfolding writeHeaderUnder
   write-header-gives w h = rw (w, le-ltb room header-length h)
 
--- a header is stored field by field: five fields of a record, then the count's two
-pub header-stored : (p : Program) (buf b1 b2 b3 : List ℕ) →
+-- a header is stored field by field: five fields of a record, then the rows, then the count's two
+pub header-stored : (p : Program) (buf b1 b2 b3 b4 : List ℕ) →
     b1 ≡ layAt 0 (recordBytes (header-length ∷ header-kind ∷ p .registers ∷ p .inputs ∷ p .outputs ∷ [])) buf →
-    b2 ≡ layAt 10 (fieldBytes (p .count % 65536)) b1 → b3 ≡ layAt 12 (fieldBytes (p .count / 65536)) b2 → header-length ≤ length buf →
-    b3 ≡ layAt 0 (headerBytes p) buf
+    b2 ≡ layAt 10 (fieldBytes (p .rows)) b1 → b3 ≡ layAt 12 (fieldBytes (p .count % 65536)) b2 →
+    b4 ≡ layAt 14 (fieldBytes (p .count / 65536)) b3 → header-length ≤ length buf → b4 ≡ layAt 0 (headerBytes p) buf
 unfolding headerBytes
-header-stored p buf b1 b2 b3 e1 e2 e3 h =
-    field-after _ _ _ five-one _ _ _ _ (field-after _ _ _ five five-one _ _ _ e1 e2 refl refl (omega arith)) e3 refl refl h
+header-stored p buf b1 b2 b3 b4 e1 e2 e3 e4 h =
+    field-after _ _ _ seven _ _ _ _
+    (field-after _ _ _ six seven _ _ _ (field-after _ _ _ five six _ _ _ e1 e2 refl refl (omega arith)) e3 refl refl (omega arith)) e4 refl
+    refl h
   where
     five : List ℕ
     five = header-length ∷ header-kind ∷ p .registers ∷ p .inputs ∷ p .outputs ∷ []
 
-    five-one : List ℕ
-    five-one = header-length ∷ header-kind ∷ p .registers ∷ p .inputs ∷ p .outputs ∷ p .count % 65536 ∷ []
+    six : List ℕ
+    six = header-length ∷ header-kind ∷ p .registers ∷ p .inputs ∷ p .outputs ∷ p .rows ∷ []
+
+    seven : List ℕ
+    seven = header-length ∷ header-kind ∷ p .registers ∷ p .inputs ∷ p .outputs ∷ p .rows ∷ p .count % 65536 ∷ []

@@ -1,13 +1,15 @@
-// What a program is made of, within which limits, and what a check of one keeps (01, "Files").
+// What a program is made of, within which limits, and what a check of one keeps (01, "Files"; 02, order 10).
 ghost use mathlib.Core.Path.{_≡_};
 ghost use Rattle.programs.specs.Limits.{among, unset, unwritten, within};
 ghost use Rattle.programs.specs.Instructions.{lengthOf};
+use crate::rows::suited;
 
 // The numbers of a program's header.
 pub struct Program {
     pub registers: usize,
     pub inputs: usize,
     pub outputs: usize,
+    pub rows: usize,
     pub count: u32,
 }
 
@@ -23,24 +25,26 @@ pub enum Instruction {
 }
 
 // Whether a number is 1 to `most`.
-fn among(most: usize, x: usize) -> bool
+pub(crate) fn among(most: usize, x: usize) -> bool
     ensures { λ r. ⌜ r ≡ among most x ⌝ }
 {
     !((x < 1) | (most < x))
 }
 
 impl Program {
-    // The most registers, inputs, outputs and instructions. Those of inputs and instructions were raised by 02, order 8.
+    // The most registers, inputs, outputs, rows and instructions. Those of inputs and instructions were raised by 02, order 8.
     pub const REGISTERS: usize = 1024;
 
     pub const INPUTS: usize = 192;
 
     pub const OUTPUTS: usize = 8;
 
+    pub const ROWS: usize = 128;
+
     pub const INSTRUCTIONS: u32 = 262_144;
 
     // The length of a header, and its kind.
-    pub const HEADER: usize = 14;
+    pub const HEADER: usize = 16;
 
     pub const KIND: usize = 16;
 
@@ -51,6 +55,7 @@ impl Program {
         among(Program::REGISTERS, self.registers)
             & among(Program::INPUTS, self.inputs)
             & among(Program::OUTPUTS, self.outputs)
+            & suited(self.rows, self.outputs)
             & (self.count <= Program::INSTRUCTIONS)
     }
 }

@@ -1,4 +1,4 @@
-// The header of a program: reading one and writing one (01, "Files").
+// The header of a program: reading one and writing one (01, "Files"; 02, order 10).
 ghost use mathlib.Core.Path.{_≡_};
 ghost use mathlib.Core.Bool.{true};
 ghost use Prim.Native.Nat.{_≤_};
@@ -21,7 +21,7 @@ pub enum Checked {
     Program(Program),
 }
 
-// The header at the front of a file: refusals 1 for under four bytes, 2, 1 for a header cut short, 3, 4 (02, order 3).
+// The header at the front of a file: refusals 1 for under four bytes, 2, 1 for a header cut short, 4, 3 (02, orders 3 and 10).
 pub fn read_header(file: &[u8]) -> Checked
     ensures { λ r. ⌜ checked r ≡ headerOf (now (file .entry)) ⌝ }
 {
@@ -34,17 +34,18 @@ pub fn read_header(file: &[u8]) -> Checked
     if file.len() < Program::HEADER {
         return Checked::Refused(Refusal::Short);
     }
+    if field(file, 0) != Program::HEADER {
+        return Checked::Refused(Refusal::Length);
+    }
     let p = Program {
         registers: field(file, 4),
         inputs: field(file, 6),
         outputs: field(file, 8),
-        count: (field(file, 10) + 65536 * field(file, 12)) as u32,
+        rows: field(file, 10),
+        count: (field(file, 12) + 65536 * field(file, 14)) as u32,
     };
     if !p.within() {
         return Checked::Refused(Refusal::Size);
-    }
-    if field(file, 0) != Program::HEADER {
-        return Checked::Refused(Refusal::Length);
     }
     Checked::Program(p)
 }
@@ -57,9 +58,11 @@ fn store_header(p: Program, out: &mut [u8])
     let r = p.registers as u16;
     let i = p.inputs as u16;
     let o = p.outputs as u16;
+    let m = p.rows as u16;
     put_five(out, 0, Program::HEADER, Program::KIND, r, i, o);
-    put(out, 10, (p.count % 65536) as u16);
-    put(out, 12, (p.count / 65536) as u16);
+    put(out, 10, m);
+    put(out, 12, (p.count % 65536) as u16);
+    put(out, 14, (p.count / 65536) as u16);
 }
 
 // Writes a header at the front of `out`, and answers its length; or refusal 3 where it is outside the limits, then 13.

@@ -46,23 +46,25 @@ pub(crate) fn slice_case(line: &[u8]) {
     print_sliced(answer, &words, &before);
 }
 
-// OUTPUTS samples-lent
+// rows OUTPUTS samples-lent
 pub(crate) fn samples_case(line: &[u8]) {
+    let rows = size(field(line, 1));
     let mut outputs = [0u64; 16];
-    let n = take_words(field(line, 1), &mut outputs);
+    let n = take_words(field(line, 2), &mut outputs);
     let mut samples = [FILL; SAMPLES];
-    let lent = least(size(field(line, 2)), SAMPLES);
-    let answer = lanes::samples(&outputs[..n], &mut samples[0..lent]);
+    let lent = least(size(field(line, 3)), SAMPLES);
+    let answer = lanes::samples(rows, &outputs[..n], &mut samples[0..lent]);
     print_sampled(answer, &samples);
 }
 
-// OUTPUTS sign samples-lent
+// rows OUTPUTS sign samples-lent
 pub(crate) fn signed_samples_case(line: &[u8]) {
+    let rows = size(field(line, 1));
     let mut outputs = [0u64; 16];
-    let n = take_words(field(line, 1), &mut outputs);
-    let sign = number(field(line, 2));
+    let n = take_words(field(line, 2), &mut outputs);
+    let sign = number(field(line, 3));
     let mut samples = [FILL_SAMPLE; SAMPLES];
-    let lent = least(size(field(line, 3)), SAMPLES);
-    let answer = lanes::signed_samples(&outputs[..n], sign, &mut samples[0..lent]);
+    let lent = least(size(field(line, 4)), SAMPLES);
+    let answer = lanes::signed_samples(rows, &outputs[..n], sign, &mut samples[0..lent]);
     print_signed(answer, &samples);
 }

@@ -19,6 +19,7 @@ pub(crate) fn print_checked(answer: Checked) {
             print_size(p.registers);
             print_size(p.inputs);
             print_size(p.outputs);
+            print_size(p.rows);
             print_number(p.count as u64);
         }
     }

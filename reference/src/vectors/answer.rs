@@ -78,9 +78,13 @@ fn carry_out(task: Task, fields: &mut Fields) -> Result<Answer<Line>, Malformed>
         }
         Task::Slice => slice(fields.size()?, &fields.bytes()?, fields.size()?)
             .map(|words| done().result(&words)),
-        Task::Samples => samples(&fields.words()?, fields.size()?).map(|laid| done().result(&laid)),
-        Task::SignedSamples => signed_samples(&fields.words()?, fields.number()?, fields.size()?)
+        Task::Samples => samples(fields.size()?, &fields.words()?, fields.size()?)
             .map(|laid| done().result(&laid)),
+        Task::SignedSamples => {
+            let (rows, outputs) = (fields.size()?, fields.words()?);
+            signed_samples(rows, &outputs, fields.number()?, fields.size()?)
+                .map(|laid| done().result(&laid))
+        }
         Task::Draw => draw(&fields.bytes()?, &fields.bytes()?, fields.size()?)
             .map(|laid| done().result(&laid)),
         Task::DrawSigned => {
@@ -148,11 +152,12 @@ fn file(laid: Answer<Vec<u8>>) -> Answer<Line> {
     laid.map(|file| done().size(file.len()).result(&file))
 }
 
-/// The four numbers of a program's header.
+/// The five numbers of a program's header.
 fn checked(program: &[u8]) -> Answer<Line> {
     let header = check(program)?;
     let line = done().size(header.registers).size(header.inputs);
-    Ok(line.size(header.outputs).size(header.count))
+    let line = line.size(header.outputs).size(header.rows);
+    Ok(line.size(header.count))
 }
 
 /// A run: its numbers, registers and outputs.

@@ -61,13 +61,14 @@ pub fn slice(columns: usize, strings: &[u8], words_lent: usize) -> Line {
     line.array(strings).size(words_lent)
 }
 
-pub fn samples(outputs: &[u64], samples_lent: usize) -> Line {
-    Line::new(Task::Samples).array(outputs).size(samples_lent)
+pub fn samples(rows: usize, outputs: &[u64], samples_lent: usize) -> Line {
+    let line = Line::new(Task::Samples).size(rows);
+    line.array(outputs).size(samples_lent)
 }
 
-pub fn signed_samples(outputs: &[u64], sign: u64, samples_lent: usize) -> Line {
-    let line = Line::new(Task::SignedSamples).array(outputs);
-    line.number(sign).size(samples_lent)
+pub fn signed_samples(rows: usize, outputs: &[u64], sign: u64, samples_lent: usize) -> Line {
+    let line = Line::new(Task::SignedSamples).size(rows);
+    line.array(outputs).number(sign).size(samples_lent)
 }
 
 pub fn draw(program: &[u8], strings: &[u8], samples_lent: usize) -> Line {

@@ -77,8 +77,9 @@ fn matrix_faults(file: &[u8]) -> Vec<Vec<Edit>> {
     ]
 }
 
-/// Edits after each of which the program of one row of one column is refused, with 1, 2, 3, 4, 7,
-/// 8, 9 and 10. The 1 is its last instruction's.
+/// Edits after each of which the program of one row of one column is refused, with 1, 2, 4, 3, 3, 7,
+/// 8, 9 and 10. The 1 is its last instruction's, the 4 that of the header before 02, order 10, and of
+/// the two 3 the second is its rows', which its outputs do not match.
 fn program_faults(file: &[u8]) -> Vec<Vec<Edit>> {
     let field = |at: usize, value: u16| Edit::Field { at, value };
     let (first, second, last) = (PROGRAM_HEADER, PROGRAM_HEADER + 6, file.len() - 8);
@@ -89,12 +90,13 @@ fn program_faults(file: &[u8]) -> Vec<Vec<Edit>> {
     vec![
         vec![Edit::Cut(file.len() - 1)],
         vec![field(2, 32)],
+        vec![field(0, 14)],
         vec![field(8, 9)],
-        vec![field(0, 16)],
+        vec![field(10, 2)],
         vec![field(first + 2, 8)],
         vec![field(second + 4, 6)],
         vec![field(first + 4, 5)],
-        vec![output, field(10, 8)],
+        vec![output, field(12, 8)],
     ]
 }
 
@@ -182,16 +184,15 @@ fn program_rules(put: &mut dyn FnMut(Line)) {
         &[6, 0, 1],
     ] {
         for count in 0..=2 {
-            let mut file = vec![14, 0, 16, 0, 2, 0, 1, 0, 1, 0, count, 0, 0, 0];
+            let mut file = vec![16, 0, 16, 0, 2, 0, 1, 0, 1, 0, 1, 0, count, 0, 0, 0];
             file.extend_from_slice(code);
             put(check(&file));
         }
     }
     // Output 0 is set twice, and others never.
     for outputs in 1..=3 {
-        let mut file = vec![
-            14, 0, 16, 0, 2, 0, 1, 0, outputs, 0, 3, 0, 0, 0, 6, 0, 1, 0, 1, 0,
-        ];
+        let mut file = vec![16, 0, 16, 0, 2, 0, 1, 0, outputs, 0, outputs, 0, 3, 0, 0, 0];
+        file.extend([6, 0, 1, 0, 1, 0]);
         file.extend([8, 0, 7, 0, 0, 0, 1, 0].repeat(2));
         put(check(&file));
     }

@@ -10,7 +10,7 @@ use crate::matrix::{Matrix, MATRIX_HEADER};
 use crate::program::PROGRAM_HEADER;
 
 /// The lengths next to a limit: the bytes that tell a kind, a matrix's header, a program's header.
-const LIMITS: [usize; 5] = [3, 4, 7, 8, 13];
+const LIMITS: [usize; 5] = [3, 4, 7, 8, 15];
 
 /// The cases that are the same at every scale.
 pub fn fixed(put: &mut dyn FnMut(Line)) {
@@ -65,7 +65,7 @@ fn of_other_kinds(put: &mut dyn FnMut(Line)) {
         put(read(&with(&small_matrix(), 9, kind)[..4], 0));
     }
     for kind in [0, 272, 0x1000, 65_535] {
-        put(check(&with(&least_program(), 14, kind)[..4]));
+        put(check(&with(&least_program(), 16, kind)[..4]));
     }
     all_uses_of_matrix(&with(&small_matrix(), 65_535, 16), put);
 }
@@ -73,7 +73,7 @@ fn of_other_kinds(put: &mut dyn FnMut(Line)) {
 /// Many kinds and length fields at each length around the limits.
 pub fn thorough(put: &mut dyn FnMut(Line)) {
     for kind in [0, 15, 16, 17, 31, 32, 33, 272, 288, 0x1000, 0x2000, 65_535] {
-        for length in [0, 8, 9, 14, 65_535] {
+        for length in [0, 8, 9, 14, 16, 65_535] {
             let matrix = with(&wide_matrix(), length, kind);
             let program = with(&least_program(), length, kind);
             for end in 3..=PROGRAM_HEADER {
@@ -90,9 +90,10 @@ fn with(file: &[u8], length: u16, kind: u16) -> Vec<u8> {
     edited(file, &[field(0, length), field(2, kind)])
 }
 
-/// Three rows of eleven columns: as many bytes as a program's header has.
+/// Four rows of eleven columns: as many bytes as a program's header has.
 fn wide_matrix() -> Vec<u8> {
-    Matrix::from_texts(&["10000000001", "00100000000", "01011111111"]).encode()
+    let rows = ["10000000001", "00100000000", "01011111110", "00000000001"];
+    Matrix::from_texts(&rows).encode()
 }
 
 /// The program of rows 1, 1 of one column, which 01 lists.

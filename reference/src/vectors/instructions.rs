@@ -6,7 +6,8 @@ use super::damaged::least_program;
 use super::line::Line;
 use super::INSTRUCTIONS_BEFORE;
 use crate::damage::{edited, program_header_edits, program_limit_edits};
-use crate::program::{Header, Instruction, Operation, Program, MOST_INPUTS, MOST_INSTRUCTIONS};
+use crate::program::{Header, Instruction, Operation, Program};
+use crate::program::{MOST_INPUTS, MOST_INSTRUCTIONS, MOST_ROWS};
 use crate::random::Random;
 
 /// The outputs of a long program.
@@ -38,6 +39,7 @@ fn taking(inputs: usize, input: usize) -> Program {
             registers: 1,
             inputs,
             outputs: 1,
+            rows: 1,
             count: 2,
         },
         instructions: vec![
@@ -48,7 +50,7 @@ fn taking(inputs: usize, input: usize) -> Program {
 }
 
 /// Inputs within and outside, and an input number that is one too large: 8, and with one input too
-/// many 3. Then words and strings for fewer inputs.
+/// many 3, and with another header length 4. Then words and strings for fewer inputs.
 fn inputs(put: &mut dyn FnMut(Line)) {
     for inputs in [128, 129, 136, 191, 192, 193, 256 + 192, 65_535] {
         put(check(&taking(inputs, inputs - 1).encode()));
@@ -96,6 +98,7 @@ fn long(inputs: usize, count: usize, there: usize) -> Long {
         registers: 1_024,
         inputs,
         outputs: OUTPUTS,
+        rows: MOST_ROWS,
         count,
     };
     let mut long = Long {

@@ -10,6 +10,7 @@ mod foreign;
 mod instructions;
 pub mod line;
 mod pool;
+mod rows;
 mod runs;
 mod sound;
 mod wanted;
@@ -48,6 +49,7 @@ pub fn each_given(scale: usize, mut visit: impl FnMut(&str)) {
     columns::fixed(&mut Random::new(SEED), &mut put);
     instructions::fixed(&mut Random::new(SEED), &mut put);
     pool::fixed(&mut put);
+    rows::fixed(&mut put);
     if scale > 1 {
         damaged::thorough(&mut put);
         foreign::thorough(&mut put);
@@ -59,6 +61,7 @@ pub fn each_given(scale: usize, mut visit: impl FnMut(&str)) {
         columns::thorough(&mut put);
         instructions::thorough(&mut put);
         pool::thorough(&mut put);
+        rows::thorough(&mut put);
     }
     for round in 1..=scale {
         let random = &mut Random::new(SEED + round as u64);
@@ -72,5 +75,6 @@ pub fn each_given(scale: usize, mut visit: impl FnMut(&str)) {
         columns::round(random, &mut put);
         instructions::round(random, &mut put);
         pool::round(random, &mut put);
+        rows::round(random, &mut put);
     }
 }

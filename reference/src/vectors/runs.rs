@@ -6,7 +6,7 @@ use super::{COLUMNS_BEFORE, INSTRUCTIONS_BEFORE};
 use crate::compiler::translate;
 use crate::machine;
 use crate::matrix::Matrix;
-use crate::program::{Header, Instruction, Operation, Program};
+use crate::program::{Header, Instruction, Operation, Program, MOST_ROWS};
 use crate::random::{self, Random};
 
 /// The words on which the listed program runs.
@@ -137,6 +137,7 @@ fn long_program(count: usize, middle: &[u8], times: usize) -> Long {
         registers: 1_024,
         inputs: COLUMNS_BEFORE,
         outputs: LONG_OUTPUTS,
+        rows: MOST_ROWS,
         count,
     };
     let mut long = Long {
@@ -233,11 +234,13 @@ fn string_words(random: &mut Random, put: &mut dyn FnMut(Line)) {
     ));
 }
 
-/// Output words of any content, and signs.
+/// Output words of any content, rows that they suit, and signs. The rows come from a generator aside.
 fn output_words(random: &mut Random, put: &mut dyn FnMut(Line)) {
     let number = random.between(1, 8);
     let mut words = random.words(number);
     words[0] |= random.word();
-    put(samples(&words, 64 + random.below(2)));
-    put(signed_samples(&words, random.word(), 64 + random.below(2)));
+    let rows = random::rows_for(&mut random.aside(), number);
+    put(samples(rows, &words, 64 + random.below(2)));
+    let (sign, samples_lent) = (random.word(), 64 + random.below(2));
+    put(signed_samples(rows, &words, sign, samples_lent));
 }

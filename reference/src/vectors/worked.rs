@@ -310,10 +310,12 @@ fn slices(put: &mut dyn FnMut(Line)) {
 fn sample_words(put: &mut dyn FnMut(Line)) {
     for outputs in 0..=9 {
         let words: Vec<u64> = (0..outputs).map(|i| u64::MAX << i).collect();
-        put(samples(&words, 64));
-        put(signed_samples(&words, 0xffff_0000_ff00_f0a5, 64));
-        put(samples(&words, 63));
-        put(signed_samples(&words, 0, 63));
+        // The most rows that the words suit; no words, and nine, suit none.
+        let rows = 1 << (outputs.clamp(1, 8) - 1);
+        put(samples(rows, &words, 64));
+        put(signed_samples(rows, &words, 0xffff_0000_ff00_f0a5, 64));
+        put(samples(rows, &words, 63));
+        put(signed_samples(rows, &words, 0, 63));
     }
     // Zero, a miss, and the largest number, each with its sign bit set and not.
     let words = [
@@ -326,8 +328,8 @@ fn sample_words(put: &mut dyn FnMut(Line)) {
         0b1001_0001,
         0b1001_0001,
     ];
-    put(samples(&words, 65));
-    put(signed_samples(&words, 0b1111_0000, 65));
+    put(samples(128, &words, 65));
+    put(signed_samples(128, &words, 0b1111_0000, 65));
 }
 
 fn draws(put: &mut dyn FnMut(Line)) {

@@ -60,7 +60,7 @@ pub fn of_matrix(random: &mut Random, file: &mut Vec<u8>) {
 
 /// One fault of a program file.
 pub fn of_program(random: &mut Random, file: &mut Vec<u8>) {
-    match random.below(17) {
+    match random.below(19) {
         0 => cut(random, file),
         1 => kind(random, file),
         2 => program_size(random, file),
@@ -73,8 +73,9 @@ pub fn of_program(random: &mut Random, file: &mut Vec<u8>) {
         11 => unwritten(random, file),
         12 => unset(random, file),
         13 => move_instruction(random, file),
-        14 => swap_fields(random, file, 7),
+        14 => swap_fields(random, file, 8),
         15 => foreign(random, file, any_matrix),
+        16 | 17 => rows(random, file),
         _ => any_edit(random, file, program::check(file).is_ok(), edits_of_program),
     }
 }
@@ -94,7 +95,7 @@ fn cut(random: &mut Random, file: &mut Vec<u8>) {
     let length = file.len();
     let any = random.below(length + 1);
     let less = length.saturating_sub(1);
-    file.truncate(random.pick(&[0, 1, 3, 4, 7, 8, 13, 14, 15, less, less, any, any, any]));
+    file.truncate(random.pick(&[0, 1, 3, 4, 7, 8, 13, 14, 15, 16, less, less, any, any, any]));
 }
 
 /// 1: a length field above what is there.
@@ -226,25 +227,41 @@ fn program_size(random: &mut Random, file: &mut Vec<u8>) {
     }
     let most = MOST_INSTRUCTIONS;
     let count = random.pick(&[most + 1, most + 2, 2 * most, 1 << 31, (1 << 32) - 1]);
-    set(file, 10, count);
-    set(file, 12, count >> 16);
+    set(file, 12, count);
+    set(file, 14, count >> 16);
+}
+
+/// 3: rows outside, or rows that take other outputs, or outputs that other rows take; or other rows that the outputs suit.
+fn rows(random: &mut Random, file: &mut Vec<u8>) {
+    let within = random.between(1, MOST_ROWS);
+    let held = field_or_0(file, 10);
+    let (less, more) = (held.saturating_sub(1), held + 1);
+    match random.below(4) {
+        0 => set(file, 8, random.between(1, MOST_OUTPUTS)),
+        1 => {
+            let most = MOST_ROWS;
+            let outside = [0, most + 1, 255, 256, 256 + within, within << 8, 65_535];
+            set(file, 10, random.pick(&outside));
+        }
+        _ => set(file, 10, random.pick(&[within, within, less, more])),
+    }
 }
 
 /// 4: another length of the header.
 fn program_length(random: &mut Random, file: &mut Vec<u8>) {
-    let length = random.pick(&[0, 1, 6, 10, 12, 13, 15, 16, 270, 3_584, 65_535]);
+    let length = random.pick(&[0, 1, 6, 10, 14, 14, 15, 17, 18, 272, 4_096, 65_535]);
     set(file, 0, length);
 }
 
 /// 1 or 4: more instructions counted than there are, or fewer.
 fn count(random: &mut Random, file: &mut Vec<u8>) {
-    let held = field_or_0(file, 10);
+    let held = field_or_0(file, 12);
     let less = random.below(held + 1);
     let count = random.pick(&[held + 1, held + 2, held.saturating_sub(1), less, 0]);
-    set(file, 10, count);
+    set(file, 12, count);
     // up to three times 65,536 more are within the limit, and refused only where they are missing
     if random.once_in(8) {
-        set(file, 12, random.between(1, 3));
+        set(file, 14, random.between(1, 3));
     }
 }
 
@@ -316,13 +333,16 @@ fn unwritten(random: &mut Random, file: &mut Vec<u8>) {
     }
 }
 
-/// 10: an output more, or one of them set in place of another, or never.
+/// 10: an output more, with the most rows that take it, or one of them set in place of another, or never.
 fn unset(random: &mut Random, file: &mut Vec<u8>) {
     let outputs = field_or_0(file, 8);
     match (random.below(3), place(random, file, 7)) {
         (0, Some(at)) => set(file, at + 4, random.below(outputs.max(1))),
         (1, Some(at)) => remove(file, at),
-        _ => set(file, 8, outputs + 1),
+        _ => {
+            set(file, 8, outputs + 1);
+            set(file, 10, 1 << outputs.min(MOST_OUTPUTS));
+        }
     }
 }
 
@@ -330,8 +350,8 @@ fn unset(random: &mut Random, file: &mut Vec<u8>) {
 fn remove(file: &mut Vec<u8>, at: usize) {
     let length = field(file, at);
     Edit::Remove { at, length }.apply(file);
-    let count = field_or_0(file, 10);
-    set(file, 10, count.wrapping_sub(1));
+    let count = field_or_0(file, 12);
+    set(file, 12, count.wrapping_sub(1));
 }
 
 /// One instruction before another, where it may read what is not yet written; or gone.

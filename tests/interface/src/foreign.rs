@@ -66,19 +66,23 @@ type Case = (Vec<u8>, u32);
 
 /// Ends the tests where one of the files is not refused with its number.
 pub fn compare() {
-    let table = Matrix::from_texts(&["10000000001", "00100000000", "01011111111"]);
+    // 16 bytes, as many as the header of a program
+    let rows = ["10000000001", "00100000000", "00000000000", "01011111111"];
+    let table = Matrix::from_texts(&rows);
     let (matrix, program) = (table.encode(), translate(&table).encode());
     let mut of_matrix = short(&matrix, &program, matrix.len());
-    of_matrix.extend(cut(&program, [4, 7, 8, 13, program.len()], FOREIGN));
+    let lengths = [4, 7, 8, 13, 14, 15, 16, program.len()];
+    of_matrix.extend(cut(&program, lengths, FOREIGN));
     for kind in NO_KINDS.into_iter().chain([16]) {
         of_matrix.extend(cut(&with(&matrix, 9, kind), [4, 7, 8, 9], FOREIGN));
         of_matrix.extend(cut(&with(&matrix, 65_535, kind), [8, 14], FOREIGN));
     }
     refused(&OF_MATRIX, &of_matrix);
-    let mut of_program = short(&program, &matrix, 14);
-    of_program.extend(cut(&matrix, (4..=13).chain([matrix.len()]), FOREIGN));
+    let mut of_program = short(&program, &matrix, 16);
+    of_program.extend(cut(&matrix, 4..=matrix.len(), FOREIGN));
     for kind in NO_KINDS.into_iter().chain([32]) {
-        of_program.extend(cut(&with(&program, 14, kind), [4, 7, 8, 13, 14], FOREIGN));
+        let lengths = [4, 7, 8, 13, 14, 15, 16];
+        of_program.extend(cut(&with(&program, 16, kind), lengths, FOREIGN));
     }
     refused(&OF_PROGRAM, &of_program);
 }

@@ -5,7 +5,7 @@ use reference::extremes::longest_program;
 use reference::matrix::Matrix;
 use reference::program::{
     Header, Instruction, Operation, Program, Role, MOST_INPUTS, MOST_INSTRUCTIONS, MOST_OUTPUTS,
-    MOST_REGISTERS,
+    MOST_REGISTERS, MOST_ROWS,
 };
 use reference::random::{self, Random};
 use reference::record::packed_length;
@@ -43,12 +43,13 @@ impl Stock {
     }
 }
 
-/// A program of so many instructions, with the most registers, inputs and outputs.
+/// A program of so many instructions, with the most registers, inputs, outputs and rows.
 pub fn long_program(count: usize) -> Vec<u8> {
     let header = Header {
         registers: MOST_REGISTERS,
         inputs: MOST_INPUTS,
         outputs: MOST_OUTPUTS,
+        rows: MOST_ROWS,
         count,
     };
     let last = MOST_REGISTERS - 1;

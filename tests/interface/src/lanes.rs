@@ -8,8 +8,8 @@ use crate::trial::Trial;
 use reference::lanes::LANES;
 use reference::lent;
 use reference::matrix::MOST_COLUMNS;
-use reference::program::{MOST_INPUTS, MOST_OUTPUTS};
-use reference::random::Random;
+use reference::program::{MOST_INPUTS, MOST_OUTPUTS, MOST_ROWS};
+use reference::random::{rows_for, Random};
 
 /// 64 strings of so many bits: sound, with a spare bit, too short.
 fn some_strings(random: &mut Random, columns: usize) -> Vec<u8> {
@@ -70,8 +70,8 @@ pub fn slice_on(
     (returned, unsafe { trial.left().slice(words) }.to_vec())
 }
 
-/// Output words: mostly 1 to 8, of any content, or with lanes that all hit or all miss.
-fn some_outputs(random: &mut Random) -> Vec<u64> {
+/// Output words: mostly 1 to 8, of any content, or with lanes that all hit or all miss. And rows: mostly such as take so many words.
+fn some_outputs(random: &mut Random) -> (usize, Vec<u64>) {
     let within = random.between(1, MOST_OUTPUTS);
     let number = match random.below(200) {
         0 => SIXTEEN_BITS + within,
@@ -84,7 +84,16 @@ fn some_outputs(random: &mut Random) -> Vec<u64> {
     if let Some(hits) = outputs.first_mut() {
         *hits = random.pick(&[*hits, *hits, *hits, 0, u64::MAX]);
     }
-    outputs
+    let suited = rows_for(random, within);
+    let other = random.between(1, MOST_ROWS);
+    let none = outside(random, MOST_ROWS);
+    let rows = match random.below(16) {
+        0 => 256 + suited,
+        1 => none,
+        2 => random.pick(&[suited - 1, suited + 1, other]),
+        _ => suited,
+    };
+    (rows, outputs)
 }
 
 /// A sign word.
@@ -94,36 +103,71 @@ fn some_sign(random: &mut Random) -> u64 {
 }
 
 pub fn samples(trial: &mut Trial, random: &mut Random, _: &Stock) {
+    let (rows, outputs) = some_outputs(random);
+    let samples = length(random, LANES, 4);
+    samples_on(trial, random, rows, &outputs, samples);
+}
+
+/// Reads samples into room for so many. Returns the number that engine and reference return, and the samples as they are left, as
+/// `signed_samples_on` does.
+pub fn samples_on(
+    trial: &mut Trial,
+    random: &mut Random,
+    rows: usize,
+    outputs: &[u64],
+    samples: usize,
+) -> (u32, Vec<u8>) {
     let mut memory = Memory::new(random);
-    let outputs = memory.lend("outputs", &some_outputs(random));
-    let samples = memory.room("samples", length(random, LANES, 4));
-    trial.compare(
+    memory.note("rows", rows as u64);
+    let outputs = memory.lend("outputs", outputs);
+    let samples = memory.room("samples", samples);
+    let returned = trial.compare(
         &memory,
-        |view| unsafe { lent::samples(view.slice(outputs), view.slice_mut(samples)) },
+        |view| unsafe { lent::samples(rows, view.slice(outputs), view.slice_mut(samples)) },
         |table, view| unsafe {
-            let outputs_pointer = view.pointer(outputs);
-            let samples_pointer = view.pointer(samples);
             (table.samples)(
-                outputs_pointer,
+                rows,
+                view.pointer(outputs),
                 outputs.length,
-                samples_pointer,
+                view.pointer(samples),
                 samples.length,
             )
         },
     );
+    // SAFETY: the block that is left lives, and nothing else uses it.
+    (returned, unsafe { trial.left().slice(samples) }.to_vec())
 }
 
 pub fn signed_samples(trial: &mut Trial, random: &mut Random, _: &Stock) {
+    let (rows, outputs) = some_outputs(random);
     let sign = some_sign(random);
+    let samples = length(random, LANES, 4);
+    signed_samples_on(trial, random, rows, &outputs, sign, samples);
+}
+
+/// Reads with a sign word.
+pub fn signed_samples_on(
+    trial: &mut Trial,
+    random: &mut Random,
+    rows: usize,
+    outputs: &[u64],
+    sign: u64,
+    samples: usize,
+) -> (u32, Vec<i16>) {
     let mut memory = Memory::new(random);
+    memory.note("rows", rows as u64);
     memory.note("sign", sign);
-    let outputs = memory.lend("outputs", &some_outputs(random));
-    let samples = memory.room("samples", length(random, LANES, 4));
-    trial.compare(
+    let outputs = memory.lend("outputs", outputs);
+    let samples = memory.room("samples", samples);
+    let returned = trial.compare(
         &memory,
-        |view| unsafe { lent::signed_samples(view.slice(outputs), sign, view.slice_mut(samples)) },
+        |view| unsafe {
+            let (outputs, samples) = (view.slice(outputs), view.slice_mut(samples));
+            lent::signed_samples(rows, outputs, sign, samples)
+        },
         |table, view| unsafe {
             (table.signed_samples)(
+                rows,
                 view.pointer(outputs),
                 outputs.length,
                 sign,
@@ -132,6 +176,8 @@ pub fn signed_samples(trial: &mut Trial, random: &mut Random, _: &Stock) {
             )
         },
     );
+    // SAFETY: the block that is left lives, and nothing else uses it.
+    (returned, unsafe { trial.left().slice(samples) }.to_vec())
 }
 
 /// A program, strings of as many bits as it has inputs, and the length of a buffer for samples.

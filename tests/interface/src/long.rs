@@ -33,6 +33,7 @@ fn taking(inputs: usize, input: usize) -> Vec<u8> {
         registers: 1,
         inputs,
         outputs: 1,
+        rows: 1,
         count: 2,
     };
     let instructions = vec![
@@ -95,19 +96,21 @@ fn last_input_is_drawn(trial: &mut Trial, random: &mut Random, program: &[u8], i
     must("draw with a byte less", 13, number);
 }
 
-/// 193 inputs and more are 3 at every function that takes a program, also where the header's length is another or an operand too large.
+/// 193 inputs and more are 3 at every function that takes a program, also where an operand is too large; where the header's length is
+/// another, it is 4 (02, order 10).
 fn inputs_are_refused(random: &mut Random) {
     let mut trial = Trial::new("a program file", 0);
     for inputs in [193, 194, 255, 256 + 192, 65_535] {
         let sound = taking(inputs, 0);
         let (mut another, mut large) = (sound.clone(), sound.clone());
         another[0] = 15;
-        large[20] = 255;
-        large[21] = 255;
-        for file in [&sound, &another, &large] {
+        // the input number of the first instruction
+        large[22] = 255;
+        large[23] = 255;
+        for (file, number) in [(&sound, 3), (&another, 4), (&large, 3)] {
             for (name, call) in OF_PROGRAM {
                 let returned = call(&mut trial, random, file);
-                must(&format!("{name} of {inputs} inputs"), 3, returned);
+                must(&format!("{name} of {inputs} inputs"), number, returned);
             }
         }
     }
@@ -116,7 +119,7 @@ fn inputs_are_refused(random: &mut Random) {
 /// A program of which the header counts other than the instructions that are there.
 fn counting(count: u32, there: usize) -> Vec<u8> {
     let mut file = long_program(there);
-    file[10..14].copy_from_slice(&count.to_le_bytes());
+    file[12..16].copy_from_slice(&count.to_le_bytes());
     file
 }
 

@@ -79,17 +79,18 @@ fn others() -> [(usize, usize); HEADER_NUMBERS - REFUSALS.len()] {
     ]
 }
 
-/// 02, order 8: the limits that it moves.
-const MOVED: [(usize, usize); 3] = [
+/// 02, order 8: the limits that it moves. And order 10: the most bytes of a program, a header of 16 and 262,144 instructions of 10.
+const MOVED: [(usize, usize); 4] = [
     (192, corkhollow::COLUMNS),
     (192, corkhollow::INPUTS),
     (262_144, corkhollow::INSTRUCTIONS),
+    (2_621_456, corkhollow::MOST_PROGRAM_BYTES),
 ];
 
 /// Ends the tests where a number differs.
 pub fn compare() {
     for (wanted, by_binding) in MOVED {
-        same("a limit of 02, order 8", wanted, by_binding);
+        same("a limit that 02 moves", wanted, by_binding);
     }
     // SAFETY: calls.c defines both, and the length is compared before the numbers are read.
     let length = unsafe { through_numbers_length };

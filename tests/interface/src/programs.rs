@@ -22,19 +22,30 @@ pub fn check(trial: &mut Trial, random: &mut Random, stock: &Stock) {
 
 /// Checks a file. Returns the number that engine and reference return, as each function `.._on` does.
 pub fn check_on(trial: &mut Trial, random: &mut Random, file: &[u8]) -> u32 {
+    checked_on(trial, random, file).0
+}
+
+/// Checks a file. Returns registers, inputs, outputs, rows and count too, as they are left.
+pub fn checked_on(trial: &mut Trial, random: &mut Random, file: &[u8]) -> (u32, [usize; 5]) {
     let mut memory = Memory::new(random);
     let program = memory.lend("program", file);
     let registers = memory.number("registers");
     let inputs = memory.number("inputs");
     let outputs = memory.number("outputs");
-    let count = memory.number("count");
-    trial.compare(
+    let rows = memory.number("rows");
+    let count = memory.number::<u32>("count");
+    let returned = trial.compare(
         &memory,
         // SAFETY, here and below: what is lent lies apart in the block, which lives as long as the call.
         |view| unsafe {
-            let (inputs, outputs) = (view.number(inputs), view.number(outputs));
-            let (registers, count) = (view.number(registers), view.number(count));
-            lent::check(view.slice(program), registers, inputs, outputs, count)
+            lent::check(
+                view.slice(program),
+                view.number(registers),
+                view.number(inputs),
+                view.number(outputs),
+                view.number(rows),
+                view.number(count),
+            )
         },
         |table, view| unsafe {
             (table.check)(
@@ -43,10 +54,25 @@ pub fn check_on(trial: &mut Trial, random: &mut Random, file: &[u8]) -> u32 {
                 view.pointer(registers),
                 view.pointer(inputs),
                 view.pointer(outputs),
+                view.pointer(rows),
                 view.pointer(count),
             )
         },
-    )
+    );
+    let view = trial.left();
+    // SAFETY: the block that is left lives, and nothing else uses it.
+    let told = unsafe {
+        let [registers, inputs, outputs, rows] =
+            [registers, inputs, outputs, rows].map(|number| *view.number(number));
+        [
+            registers,
+            inputs,
+            outputs,
+            rows,
+            *view.number(count) as usize,
+        ]
+    };
+    (returned, told)
 }
 
 /// What a run is lent.
@@ -191,7 +217,7 @@ impl Run {
 
 /// The count that a file's header tells.
 fn count_of(file: &[u8]) -> u32 {
-    (field_or_0(file, 10) | field_or_0(file, 12) << 16) as u32
+    (field_or_0(file, 12) | field_or_0(file, 14) << 16) as u32
 }
 
 /// A budget, around a program's count or any.

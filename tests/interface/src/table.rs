@@ -38,7 +38,7 @@ tables! {
     compile: through_compile, corkhollow_compile
         (*const u8, usize, *mut u8, usize, *mut usize);
     check: through_check, corkhollow_check
-        (*const u8, usize, *mut usize, *mut usize, *mut usize, *mut u32);
+        (*const u8, usize, *mut usize, *mut usize, *mut usize, *mut usize, *mut u32);
     start: through_start, corkhollow_start
         (*const u8, usize, *const u64, usize, *mut u64, usize, *mut u64, usize,
          u32, *mut u32, *mut u32, *mut bool);
@@ -48,9 +48,9 @@ tables! {
     slice: through_slice, corkhollow_slice
         (usize, *const u8, usize, *mut u64, usize);
     samples: through_samples, corkhollow_samples
-        (*const u64, usize, *mut u8, usize);
+        (usize, *const u64, usize, *mut u8, usize);
     signed_samples: through_signed_samples, corkhollow_signed_samples
-        (*const u64, usize, u64, *mut i16, usize);
+        (usize, *const u64, usize, u64, *mut i16, usize);
     draw: through_draw, corkhollow_draw
         (*const u8, usize, *const u8, usize, *mut u8, usize);
     draw_signed: through_draw_signed, corkhollow_draw_signed

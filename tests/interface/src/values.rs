@@ -1,5 +1,5 @@
 //! 02, order 6, "Value bits by cases": matrices of every number of rows are compiled, their programs have as many registers and outputs as
-//! the value bits that stand there say, and the largest row is drawn. Other numbers of rows are refused.
+//! the value bits that stand there say, and the rows (order 10), and the largest row is drawn. Other numbers of rows are refused.
 
 use crate::faults::field_or_0;
 use crate::lanes::draw_signed_on;
@@ -42,7 +42,8 @@ fn ones(rows: usize) -> Matrix {
     }
 }
 
-/// Compiles into exactly the room that the program takes, and into a byte less. Returns the program, whose header has `bits` value bits.
+/// Compiles into exactly the room that the program takes, and into a byte less. Returns the program, whose header has the matrix's rows and
+/// their value bits.
 fn compiled(trial: &mut Trial, random: &mut Random, matrix: &Matrix, bits: usize) -> Vec<u8> {
     let (file, room) = (matrix.encode(), translate(matrix).length());
     let (number, program) = compile_on(trial, random, &file, room);
@@ -51,11 +52,11 @@ fn compiled(trial: &mut Trial, random: &mut Random, matrix: &Matrix, bits: usize
         matrix.rows, matrix.columns
     );
     must(&what, DONE, number);
-    let sizes = (field_or_0(&program, 4), field_or_0(&program, 8));
-    let wanted = (3 + bits + 3 * matrix.rows, 1 + bits);
+    let sizes = [4, 8, 10].map(|at| field_or_0(&program, at));
+    let wanted = [3 + bits + 3 * matrix.rows, 1 + bits, matrix.rows];
     if sizes != wanted {
         fail(&format!(
-            "{what}: registers and outputs are {sizes:?}, and not {wanted:?}"
+            "{what}: registers, outputs and rows are {sizes:?}, and not {wanted:?}"
         ));
     }
     let (number, _) = compile_on(trial, random, &file, room - 1);

@@ -55,9 +55,9 @@ pub fn compare() {
         resume(&program, if sound { 9 } else { 99 })
     });
     both("slice", |sound| slice(if sound { 2 } else { 193 }));
-    both("samples", |sound| samples(if sound { 3 } else { 9 }));
+    both("samples", |sound| samples(if sound { 3 } else { 2 }));
     both("signed_samples", |sound| {
-        signed_samples(if sound { 3 } else { 9 })
+        signed_samples(if sound { 3 } else { 5 })
     });
     both("draw", |sound| draw(&or_less(sound, &program)));
     both("draw_signed", |sound| {
@@ -168,18 +168,20 @@ fn compile(file: &[u8]) -> bool {
 }
 
 fn check(program: &[u8]) -> bool {
-    let (mut registers, mut inputs, mut outputs, mut count) = (0, 0, 0, 0);
+    let (mut registers, mut inputs, mut outputs, mut rows, mut count) = (0, 0, 0, 0, 0);
     let returned = lent::check(
         program,
         &mut registers,
         &mut inputs,
         &mut outputs,
+        &mut rows,
         &mut count,
     );
     let header = Header {
         registers,
         inputs,
         outputs,
+        rows,
         count,
     };
     same(
@@ -271,25 +273,25 @@ fn slice(columns: usize) -> bool {
     same("slice", (answer, left), (returned, (), wanted))
 }
 
-/// Output words of which every lane spells something else.
-fn outputs(number: usize) -> Vec<u64> {
+/// Three output words, of which the lanes spell 0 to 3, with hits and without.
+fn outputs() -> Vec<u64> {
     let word = |i: usize| 0x0123_4567_89ab_cdef_u64.rotate_left(7 * i as u32);
-    (0..number).map(word).collect()
+    (0..3).map(word).collect()
 }
 
-fn samples(number: usize) -> bool {
+fn samples(rows: usize) -> bool {
     let (mut left, mut wanted) = ([7; 66], [7; 66]);
-    let answer = binding::samples(&outputs(number), &mut left);
-    let returned = lent::samples(&outputs(number), &mut wanted);
+    let answer = binding::samples(rows, &outputs(), &mut left);
+    let returned = lent::samples(rows, &outputs(), &mut wanted);
     same("samples", (answer, left), (returned, (), wanted))
 }
 
 const SIGN: u64 = 0xf0f0_1234_5678_00ff;
 
-fn signed_samples(number: usize) -> bool {
+fn signed_samples(rows: usize) -> bool {
     let (mut left, mut wanted) = ([7; 66], [7; 66]);
-    let answer = binding::signed_samples(&outputs(number), SIGN, &mut left);
-    let returned = lent::signed_samples(&outputs(number), SIGN, &mut wanted);
+    let answer = binding::signed_samples(rows, &outputs(), SIGN, &mut left);
+    let returned = lent::signed_samples(rows, &outputs(), SIGN, &mut wanted);
     same("signed_samples", (answer, left), (returned, (), wanted))
 }
 

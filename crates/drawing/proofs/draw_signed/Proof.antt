@@ -17,13 +17,13 @@ array-share-prefix-outputs : tie.Need-array-share-prefix-outputs
 array-share-prefix-outputs c =
     let counted = c .before in
     let batch = counted .before .before .before .before .run-batch in
-    omega (arith, few-of (counted .n .given .1) (batch .ensures .1))
+    omega (arith, few-of (counted .rows .given .1) (batch .ensures .1))
 
 slice-aggregate-signed-samples : tie.Need-slice-aggregate-signed-samples
 slice-aggregate-signed-samples c =
     let counted = c .before .before in
     let batch = counted .before .before .before .before .run-batch in
-    part-long _ (batch .last .1 .1 .1 .1 .0) (omega (arith, few-of (counted .n .given .1) (batch .ensures .1)))
+    part-long _ (batch .last .1 .1 .1 .1 .0) (omega (arith, few-of (counted .rows .given .1) (batch .ensures .1)))
 
 returns : tie.Need-returns
 returns c = drawn-refused _ _ _ _ _ (c .before .why .given .1) (search)
@@ -33,7 +33,7 @@ returns-2 c =
     let read = c .before in
     let counted = read .before .before .before .before in
     let batch = counted .before .before .before .before .run-batch in
-    drawn-read _ _ _ _ _ _ (counted .n .given .1) (batch .ensures .0) (read .signed-samples .ensures)
+    drawn-read _ _ _ _ _ _ (counted .rows .given .1) (batch .ensures .0) (read .signed-samples .ensures)
 
 pub draw-signed-spec : {M : Type 1} → statement M
 draw-signed-spec =

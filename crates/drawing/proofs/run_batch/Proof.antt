@@ -2,23 +2,22 @@
 -- engine's words comes to what it comes to on just as many as the header says. Assumes nothing.
 use borrow.Author.Needs.{needs}
 use lib.ListN.{replicate}
-use Rattle.laws.specs.Outcome.{ends-refused}
 use Rattle.programs.specs.Limits.{most-inputs}
-use Rattle.drawing.specs.OwnWords.{batch-headless, batch-strings, batch-short, batch-ends, batch-few}
+use Rattle.drawing.specs.OwnWords.{batch-refused, batch-headless, batch-strings, batch-short, batch-ends, batch-few}
 use Rattle.drawing.proofs.run_batch.Statement.{statement}
 use Rattle.drawing.proofs.run_batch.Tie as tie
 
 returns : tie.Need-returns
 returns c =
     let head = rw (c .before .why .given .1) at (c .before .before .before .read-header .ensures) in
-    (ends-refused _ _ _ _ _ (batch-headless _ _ _ _ head), tt)
+    (batch-refused _ _ _ _ _ (batch-headless _ _ _ _ head), tt)
 
 returns-2 : tie.Need-returns-2
 returns-2 c =
     let asked = c .before .before .before .before .before .before .before .before in
     let head = rw (asked .p .given .1) at (asked .before .before .read-header .ensures) in
     let cut = rw (c .before .before .why2 .given .1) at (c .before .before .before .before .before .slice .ensures .0) in
-    (ends-refused _ _ _ _ _ (batch-strings _ _ _ _ head (replicate most-inputs 0) (search needs) _ _ cut (c .first-refusal .ensures)), tt)
+    (batch-refused _ _ _ _ _ (batch-strings _ _ _ _ head (replicate most-inputs 0) (search needs) _ _ cut (c .first-refusal .ensures)), tt)
 
 returns-3 : tie.Need-returns-3
 returns-3 c =
@@ -27,7 +26,7 @@ returns-3 c =
     let cut = rw (c .before .before .enum-told .given .1) at (c .before .before .before .before .before .slice .ensures .0) in
     let short = c .before .if1 .taken in
     let late = batch-short _ _ _ _ head (replicate most-inputs 0) (search needs) _ _ cut short (c .first-refusal2 .ensures) in
-    (ends-refused _ _ _ _ _ late, tt)
+    (batch-refused _ _ _ _ _ late, tt)
 
 returns-4 : tie.Need-returns-4
 returns-4 c =

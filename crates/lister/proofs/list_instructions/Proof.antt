@@ -2,12 +2,13 @@
 use borrow.Author.Needs.{needs}
 use Prim.Native.Nat.{_+_, _-_, _*_, _≤_}
 use native.Mathlib.Omega.{arith}
+use Rattle.programs.specs.Header.{header-length}
 use Rattle.lister.specs.Listing.{length-few}
 use Rattle.lister.proofs.list_instructions.Statement.{statement}
 use Rattle.lister.proofs.list_instructions.Tie as tie
 
 abbrev Inv-loop : tie.InvT-loop
-Inv-loop program count at₀ position₀ at position = (position ≤ count) × (at ≤ 14 + 10 * position)
+Inv-loop program count at₀ position₀ at position = (position ≤ count) × (at ≤ header-length + 10 * position)
 
 abbrev μ-loop : tie.MeasureT-loop
 μ-loop program count at₀ position₀ at position = count - position

@@ -19,10 +19,10 @@ enum-known-p : tie.Need-enum-known-p
 enum-known-p c = search needs
 
 returns : tie.Need-returns
-returns c = checks checked _ _ _ _ _ (c .before .before .why .given .1) (search) (c .number .ensures) refl refl refl refl
+returns c = checks checked _ _ _ _ _ _ (c .before .before .why .given .1) (search) (c .number .ensures) refl refl refl refl refl
 
 returns-2 : tie.Need-returns-2
-returns-2 c = checks checked _ _ _ _ _ (c .before .p .given .1) (search) refl refl refl refl refl
+returns-2 c = checks checked _ _ _ _ _ _ (c .before .p .given .1) (search) refl refl refl refl refl refl
 
 pub corkhollow-check-spec : {M : Type 1} → statement M
 corkhollow-check-spec =

@@ -22,7 +22,7 @@ exchange-block-requires : tie.Need-exchange-block-requires Inv-loop μ-loop
 exchange-block-requires c κs =
     let at = c .before .before in
     let round = at .before .pre .0 in
-    (round .some, block-in round _ (at .loop .inv .1) (c .before .loop-test .taken), at .loop .inv .2 .table .long)
+    (round .some, search needs, block-in round _ (at .loop .inv .1) (c .before .loop-test .taken), at .loop .inv .2 .table .long)
 
 mul-k : tie.Need-mul-k Inv-loop μ-loop
 mul-k c = omega (arith, apart (c .before .before .before .before .pre .0))

@@ -7,10 +7,10 @@ use Rattle.lanes.proofs.transposing.exchange_block.Statement.{statement
 use Rattle.lanes.proofs.transposing.exchange_block.Tie as tie
 
 abbrev Inv-loop : tie.InvT-loop
-Inv-loop rows₀ k d mask i₀ i-end rows i = (k ≤ i) × (i ≤ k + d) × Crossed d mask k i rows₀ rows
+Inv-loop rows₀ k n d mask i₀ i-end rows i = (k ≤ i) × (i ≤ k + n) × Crossed d mask k i rows₀ rows
 
 abbrev μ-loop : tie.MeasureT-loop
-μ-loop rows₀ k d mask i₀ i-end rows i = k + d - i
+μ-loop rows₀ k n d mask i₀ i-end rows i = k + n - i
 
 loop-holds : tie.Need-loop-holds Inv-loop μ-loop
 loop-holds c = (search needs, search needs, crossed-none _ _ _ _)
@@ -20,7 +20,7 @@ loop-again c =
     let at = c .before .before .before in (
       search needs,
       search needs,
-      crossed-more _ _ _ _ _ _ (at .before .pre .0) (at .loop .inv .0) (c .before .before .loop-test .taken) (omega arith)
+      crossed-more _ _ _ _ _ _ (at .before .pre .0) (at .loop .inv .0) (omega arith) (omega arith)
           (at .loop .inv .2),
     )
 

@@ -23,15 +23,23 @@ cast-o c =
     let w = within-means (start .args .p) (start .pre .0) in
     omega arith
 
+cast-m : tie.Need-cast-m
+cast-m c =
+    let start = c .before .before .before .before .before in
+    let w = within-means (start .args .p) (start .pre .0) in
+    omega arith
+
 returns : tie.Need-returns
 returns c =
     let high = c .before .before in
     let low = high .before .before .before .before .before in
-    let five = low .before .before .before .before .before in
-    header-stored _ _ _ _ _ (five .put-five .ensures) (low .put .ensures) (high .put2 .ensures) (search needs)
+    let rows = low .before .before .before .before .before in
+    let five = rows .before .before .before .before in
+    let start = five .before .before .before .before .before .before .before in
+    header-stored _ _ _ _ _ _ (five .put-five .ensures) (rows .put .ensures) (low .put2 .ensures) (high .put3 .ensures) (start .pre .1)
 
 pub store-header-spec : {M : Type 1} → statement M
 store-header-spec =
     tie.close
-    (tie.spec cast-r cast-i cast-o (λ c κs. search needs) (λ c. search needs) (λ c κs. search needs) (λ c. search needs)
-    (λ c κs. search needs) (λ c. search needs) returns)
+    (tie.spec cast-r cast-i cast-o cast-m (λ c κs. search needs) (λ c κs. search needs) (λ c. search needs) (λ c κs. search needs)
+    (λ c. search needs) (λ c κs. search needs) (λ c. search needs) returns)

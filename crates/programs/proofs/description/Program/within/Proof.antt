@@ -5,9 +5,10 @@ use Rattle.programs.proofs.description.Program.within.Tie as tie
 
 returns : tie.Need-returns
 returns c =
-    let outputs = c .before in
+    let rows = c .before in
+    let outputs = rows .before in
     let inputs = outputs .before in
-    rw (inputs .before .among .ensures, inputs .among2 .ensures, outputs .among3 .ensures)
+    rw (inputs .before .among .ensures, inputs .among2 .ensures, outputs .among3 .ensures, rows .suited .ensures)
 
 pub within-spec : {M : Type 1} → statement M
-within-spec = tie.close (tie.spec (λ c κs. search needs) (λ c κs. search needs) (λ c κs. search needs) returns)
+within-spec = tie.close (tie.spec (λ c κs. search needs) (λ c κs. search needs) (λ c κs. search needs) (λ c κs. search needs) returns)

@@ -1,5 +1,5 @@
--- k, the bits needed to write m - 1: what these words mean, and the ranges of m in which k is one number (01, "Translation"; 02, order
--- 6). Assumes nothing.
+-- k, the value bits of m rows: the bits needed to write m - 1, what these words mean, and the ranges of m in which k is one number (01,
+-- "Translation"; 02, order 6). Assumes nothing.
 use Prim.Native.Nat.{ℕ, zero, suc, _-_, _*_, _^_, _≤_, _<_}
 use mathlib.Core.Path.{_≡_, refl}
 use mathlib.Core.Bool.{Bool, true, false, cond}
@@ -9,8 +9,21 @@ use native.Mathlib.Omega.{arith}
 use borrow.Author.Tests.{ltb-true, ltb-false}
 use lib.Dec.{ltb}
 use lib.Pow.{pow-pos, pow-mono}
-use Rattle.compiler.specs.Translation.{bitsToWrite, rowBits}
 
+-- the bits needed to write x, where those needed to write x - 1 are k: one more where k bits are too few
+abbrev pub widened : ℕ → ℕ → ℕ
+widened x k = cond (ltb x (2 ^ k)) k (suc k)
+
+-- the bits needed to write x, none for 0
+unfoldable pub bitsToWrite : ℕ → ℕ
+bitsToWrite zero = 0
+bitsToWrite (suc x) = widened (suc x) (bitsToWrite x)
+
+-- k, for m rows: the bits needed to write m - 1
+unfoldable pub rowBits : ℕ → ℕ
+rowBits m = bitsToWrite (m - 1)
+
+-- ---- what "needed" means
 -- k bits are needed to write x: x is below 2^k, and not below 2^(k-1) where k is above 0
 pub record Needed (x k : ℕ) : Type 0 where
   pub below : x < 2 ^ k
