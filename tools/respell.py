@@ -1,11 +1,12 @@
 #!/usr/bin/env python3
-"""Brings the repository's own names to the spelling of today's Rattle: words in snake case, types in camel case, a dash where it joins two names.
+"""Brings the repository's own names to the spelling of today's Rattle: words in snake case, types in camel case, a dash where it joins
+two names.
 
 usage: python3 tools/respell.py links    at the top, before the kit's port.py: a link below crates/ becomes a copy of what it names
        python3 tools/respell.py names    at the top, after it: definitions, lemmas and fields that respell.tsv lists, in .antt and .rt files
 
-A row of respell.tsv is the name as port.py leaves it, the name as it is written now, and, where one name means several things, the files that
-the row is for. Functions of src/ and exported names keep theirs.
+A row of respell.tsv is the name as port.py leaves it, the name as it is written now, and, where one name means several things, the files
+that the row is for. Functions of src/ and exported names keep theirs.
 """
 
 import os
