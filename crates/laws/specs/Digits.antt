@@ -1,10 +1,10 @@
 -- A number by its binary digits, the first digit the highest: how 01 reads a row, a byte and a string of bits. Assumes nothing.
 use Rattle.std.specs.Prelude.{ℕ, zero, suc, ◌+◌, ◌-◌, ◌*◌, ◌/◌, ◌%◌, ◌^◌, ◌≤◌, ◌<◌, ◌≡◌, refl, ◌≢◌}
-use Rattle.std.proofs.Common.{ap, sym, ◌∙◌, ⊎_elim, add-zero, eq-or-lt_of_le, mod-eq_of_lt, mul-le-mul_right, add-one, pow-add, pow_mono}
+use Rattle.std.proofs.Common.{ap, sym, ◌∙◌, ⊎_elim, add-zero, eq-or-lt_of_le, mul-le-mul_right, add-one, pow-add, pow_mono}
 use Rattle.std.proofs.Math.Nat.{pow-succ'}
 use native.Mathlib.Omega.{arith}
 use Rattle.std.specs.Int.Bits.{bit_and}
-use Rattle.std.proofs.lemmas.Nat.{and_mask, mod-pow-add, shl-shr}
+use Rattle.std.proofs.lemmas.Nat.{and_mask, shl-shr}
 use Rattle.std.proofs.Math.Pow.{high, low}
 use Rattle.laws.specs.Tests.{reached}
 
@@ -86,27 +86,6 @@ digits_of f g (suc k) c okf okg e i a b =
     let okg' : (i : ℕ) → suc c ≤ i → i < suc c + k → g i ≤ 1 = λ i a b. okg i (omega arith) (omega arith) in
     let d = apart (f c) (g c) k (number f (suc c) k) (number g (suc c) k) (number_lt f (suc c) k okf') (number_lt g (suc c) k okg') e in
     ⊎_elim (λ (q : c ≡ i). rw (← q) d.0) (λ (q : c < i). digits_of f g k (suc c) okf' okg' d.1 i q (omega arith)) (eq-or-lt_of_le a)
-
--- ---- number and digit are inverse
--- the last k digits
-pub low_digits : (n x k c : ℕ) → c + k ≡ n → number (digit n x) c k ≡ x % 2 ^ k
-unfolding number digit
-low_digits n x zero c e = omega arith
-low_digits n x (suc k) c e =
-    let q : n - 1 - c ≡ k = omega arith in
-    let o : 1 + k ≡ suc k = omega arith in
-    rw q (omega (arith, low_digits n x k (suc c) (omega arith), rw o at (mod-pow-add x 1 k)))
-
-pub number-digit : (k x : ℕ) → x < 2 ^ k → number (digit k x) 0 k ≡ x
-number-digit k x h = low_digits k x k 0 (omega arith) ∙ mod-eq_of_lt h
-
-pub digit-number : (f : ℕ → ℕ) (c k i : ℕ) → ((i : ℕ) → c ≤ i → i < c + k → f i ≤ 1) → i < k → digit k (number f c k) i ≡ f (c + i)
-digit-number f c k i ok h =
-    digits_of (digit k (number f c k)) (λ j. f (c + j)) k 0 (λ j a b. digit-le k (number f c k) j)
-    (λ j a b. ok (c + j) (omega arith) (omega arith))
-    (number-digit k (number f c k) (number_lt f c k ok) ∙
-    number_shift f (λ j. f (c + j)) c 0 k (λ j l. ap (λ (z : ℕ). f (c + z)) (omega arith)))
-    i (omega arith) (omega arith)
 
 -- a mask of 1 is the rest of a division by 2
 pub and_one : (x : ℕ) → bit_and x 1 ≡ x % 2

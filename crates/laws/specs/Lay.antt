@@ -1,7 +1,8 @@
 -- Results laid into lent buffers: beyond its own extent a result changes nothing. Assumes nothing.
 use Rattle.std.specs.Prelude.{ℕ, ◌+◌, ◌*◌, ◌≤◌, ◌<◌, ◌≡◌, get_or, set}
 use Rattle.std.proofs.Math.Path.{refl, sym, ap}
-use Rattle.std.proofs.Common.{◌∙◌, add_assoc, add-zero, zero-add, add-one, arith, length-drop, take-append-drop, drop_of_length-le, length-take-le}
+use Rattle.std.proofs.Common.{◌∙◌, add_assoc, add-zero, zero-add, add-one, arith, length-drop, take-append-drop, drop_of_length-le}
+use Rattle.std.proofs.Common.{length-take-le}
 use mathlib.Core.List.{List, [], ◌∷◌, ◌++◌, append_assoc, append-nil}
 use Rattle.std.proofs.Math.ListN.{length, take, drop, length-append, length-take, get_or-append}
 use Rattle.std.proofs.Math.Seq.{take_at, take-append_seam, drop_at, drop-append-add, drop-append_seam, drop-drop, set_split}

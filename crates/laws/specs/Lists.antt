@@ -2,7 +2,8 @@
 use Prim.Native.Nat.{ℕ, zero, suc, ◌+◌, ◌-◌, ◌*◌, ◌/◌, ◌%◌, ◌≤◌, ◌<◌}
 use Rattle.std.specs.Prelude.{◌≡◌, take, drop, set, replicate}
 use Rattle.std.proofs.Math.Path.{refl, sym, ap}
-use Rattle.std.proofs.Common.{◌∙◌, subst, add-zero, eq-or-lt_of_le, le_of_suc-le-suc, eq-zero-or-pos, div-lt_iff_lt-mul, div-add-mod', mod-lt, add-one, length-append, length-drop, ext_get_or, get_or-take, length-take-le, take_all}
+use Rattle.std.proofs.Common.{◌∙◌, subst, add-zero, eq-or-lt_of_le, le_of_suc-le-suc, eq-zero-or-pos, div-lt_iff_lt-mul, div-add-mod'}
+use Rattle.std.proofs.Common.{mod-lt, add-one, length-append, length-drop, ext_get_or, get_or-take, length-take-le, take_all}
 use mathlib.Core.List.{List, [], ◌∷◌, ◌++◌, append_assoc, append-nil, map}
 use Rattle.std.proofs.Math.Logic.{⊎_elim}
 use Rattle.std.proofs.Math.Nat.{mul-one, mul-le-mul_right}

@@ -1,6 +1,7 @@
 -- Words by their bits, bit 0 the lowest: a lane of words is one bit of each (01, "Runs, words, samples"). Assumes nothing.
 use Rattle.std.specs.Prelude.{ℕ, zero, suc, ◌+◌, ◌-◌, ◌*◌, ◌/◌, ◌%◌, ◌^◌, min, max, ◌≤◌, ◌<◌, ◌≡◌, refl, ℤ}
-use Rattle.std.proofs.Common.{sym, ap, ◌∙◌, ⊎_elim, add-zero, zero-add, eq-or-lt_of_le, le_of_suc-le-suc, mod-eq_of_lt, arith, to_z-of_z, SFits, to_z, of_z, pow_pos, shr-shr}
+use Rattle.std.proofs.Common.{sym, ap, ◌∙◌, ⊎_elim, add-zero, zero-add, eq-or-lt_of_le, le_of_suc-le-suc, mod-eq_of_lt, arith, to_z-of_z}
+use Rattle.std.proofs.Common.{SFits, to_z, of_z, pow_pos, shr-shr}
 use Rattle.std.proofs.Math.Nat.{zero-div, pow-succ', le_dest}
 use Rattle.std.specs.Int.{Width}
 use Rattle.std.specs.Int.Bits.{bit_and, bit_or, bit_xor, differ, and_step, or_step, xor_step}

@@ -1,1 +1,2 @@
 // No code: the definitions and laws in specs/ that the engine's contracts and theorems share.
+#![tactic(auto)]
