@@ -8,7 +8,8 @@ use native.Mathlib.Omega.{arith}
 use Rattle.std.specs.Int.Bits.{bit_and, and_mask}
 use Rattle.std.proofs.Math.ListN.{get_or-eq_default}
 use Rattle.laws.specs.Tests.{lt-or_ge}
-use Rattle.laws.specs.Digits.{number, digit, digit-le, digit-number, number_shift, low_digits, number-zero, zero_digits}
+use Rattle.laws.specs.Digits.{number, digit, digit-le, number_shift, number-zero, zero_digits}
+use Rattle.laws.proofs.Digits.{digit-number, low_digits}
 use Rattle.laws.specs.Lists.{blocks, upto, upto-eq, get_d_blocks, get_d_upto, length-upto}
 use Rattle.laws.specs.Lay.{lay_at, lay_at-after, set_is}
 

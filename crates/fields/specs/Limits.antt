@@ -5,8 +5,8 @@ use Rattle.laws.specs.Tests.{never, neither, lt-or_ge}
 use Rattle.laws.specs.Outcome.{Outcome, refuse, ◌>>◌}
 use Rattle.laws.specs.Raised.{Raised, raised_check}
 
--- n is 1 to 192 (02, order 8): the columns of a matrix, and the bits of a string. Definitions `..Under` are told how many columns they
--- allow, so that limits can be compared (engine/Raised); `..Of` are the same at this limit.
+-- n is 1 to 192 (02, order 8): the columns of a matrix, and the bits of a string. Definitions `.._under` are told how many columns they
+-- allow, so that limits can be compared (engine/Raised); `.._of` are the same at this limit.
 abbrev pub most_columns : ℕ
 most_columns = 192
 

@@ -6,7 +6,6 @@ use Rattle.fields.specs.declared.refusals.Refusal.TheVariants.{Short, Kind, Size
 use Rattle.fields.specs.declared.refusals.Refusal.TheVariants.{Operand, Unwritten, Unset, Weightless, Position, Buffer}
 use Rattle.fields.specs.declared.refusals.Refusal.TheVariants.{Multiplier, Table, Step, Signer, Cap, Reserve}
 use Rattle.fields.specs.declared.refusals.Written.{Written}
-use Rattle.fields.specs.declared.refusals.Written.TheVariants as Written
 
 abbrev pub number_of : Refusal → ℕ
 number_of Short = 1

@@ -8,7 +8,6 @@ use Rattle.fields.specs.Fields.{spare, width}
 use Rattle.fields.specs.Limits.{outside, most_columns, within}
 use Rattle.fields.specs.Refusal.{number_of}
 use Rattle.fields.specs.declared.packing.Strings.{Strings}
-use Rattle.fields.specs.declared.packing.Strings.TheVariants as Strings
 
 -- whether a spare bit is set behind any of `count` strings of n bits, one after another
 abbrev pub any_spare : ℕ → ℕ → List ℕ → Bool

@@ -2,6 +2,8 @@
 // (01, "Files", "Runs, words, samples", "The engine's no"); with the answer of whatever writes into a lent buffer.
 //
 // Every operation takes any content and any length. Its contract cites one definition of specs/.
+#![tactic(auto)]
+
 mod bits;
 mod limits;
 mod packing;

@@ -8,7 +8,7 @@ use crate::limits::{COLUMNS, outside};
 use crate::refusals::Refusal;
 
 // A refusal, or that the strings are there and sound.
-#[derive(Drop)]
+#[derive(Clone, Copy)]
 pub enum Strings {
     Refused(Refusal),
     Sound,

@@ -3,7 +3,7 @@ ghost use Rattle.std.specs.Prelude.{◌≡◌};
 ghost use Rattle.fields.specs.Refusal.{number_of};
 
 // A name for each row of the table, in its order, then those that 02 adds.
-#[derive(Drop)]
+#[derive(Clone, Copy)]
 pub enum Refusal {
     Short,
     Kind,
@@ -27,7 +27,7 @@ pub enum Refusal {
 }
 
 // A refusal, or the number of bytes written.
-#[derive(Drop)]
+#[derive(Clone, Copy)]
 pub enum Written {
     Refused(Refusal),
     Length(usize),
