@@ -1,13 +1,14 @@
 -- The ways through the checks of a matrix file, and what passing them says. Assumes nothing.
 use Rattle.std.specs.Prelude.{ℕ, ◌+◌, ◌-◌, ◌*◌, ◌/◌, ◌^◌, ◌≤◌, ◌<◌, ◌≡◌, refl, Bool, not, List, eqb, leb, take, drop}
-use Rattle.std.proofs.Common.{ap, ◌∙◌, subst, ⊎_elim, arith, length-drop}
+use Rattle.std.proofs.Common.{ap, sym, ◌∙◌, subst, ⊎_elim, arith, length-drop}
 use Rattle.std.proofs.Math.Bool.{true, false}
 use borrow.Author.Tests.{lt-ltb, le-ltb, eq-eqb, ne_eqb, ltb-false, le-leb, lt-leb, eqb-true, not-false}
 use Rattle.std.proofs.Math.Dec.{ltb}
 use Rattle.std.proofs.Math.ListN.{length}
-use Rattle.laws.specs.Tests.{lt-or_ge}
+use Rattle.laws.specs.Tests.{lt-or_ge, never}
 use Rattle.laws.specs.Lists.{row-end, rest_is}
-use Rattle.laws.specs.Outcome.{refused, gives, refuse, ◌>>◌, passed, bound, mapped, mapped-gives, mapped-refused, gives_inj}
+use Rattle.laws.specs.Outcome.{Outcome, refused, gives, refuse, ◌>>◌, passed, bound, mapped, mapped-gives, mapped-refused, gives_inj}
+use Rattle.laws.specs.Outcome.{no_result}
 use Rattle.fields.specs.Limits.{most_columns, outside, inside, within}
 use Rattle.fields.specs.Fields.{field_of, width, bit_of}
 use Rattle.fields.specs.Strings.{any_spare, strings_of, strings-whole}
@@ -17,32 +18,6 @@ use Rattle.files.specs.Sizes.{sizes-refuse}
 use Rattle.files.specs.Live.{total_from, total-eq, rows_fit}
 use Rattle.files.specs.Files.{file_length, sizes_under, header_under, header_of, body_of, unpacked, Whole}
 use Rattle.files.specs.Files.{matrix_under, matrix_of, read_under, read_of}
-
--- ---- the header: how far it came
-module _ (file : List ℕ) where
-  pub header-few : length file < 4 → refused 1 ≡ header_of file
-  unfolding header_under
-  header-few a = rw (lt-ltb (length file) 4 a)
-
-  module _ (a : 4 ≤ length file) where
-    pub header_kind : (field_of file 2 ≡ 32 → ⊥) → refused 2 ≡ header_of file
-    unfolding header_under
-    header_kind k = rw (le-ltb (length file) 4 a, ne_eqb (field_of file 2) 32 k)
-
-    module _ (k : field_of file 2 ≡ 32) where
-      pub header-short : length file < 8 → refused 1 ≡ header_of file
-      unfolding header_under
-      header-short b = rw (le-ltb (length file) 4 a, eq-eqb (field_of file 2) 32 k, lt-ltb (length file) 8 b)
-
-      pub header_cut : 8 ≤ length file → length file < field_of file 0 → refused 1 ≡ header_of file
-      unfolding header_under
-      header_cut b c =
-          rw (
-            le-ltb (length file) 4 a,
-            eq-eqb (field_of file 2) 32 k,
-            le-ltb (length file) 8 b,
-            lt-ltb (length file) (field_of file 0) c,
-          )
 
 -- what has passed before the sizes are tried, with the fields as they were read
 pub record Kinded (file : List ℕ) (len m n : ℕ) : Type 0 where
@@ -101,19 +76,51 @@ record Passed (most : ℕ) (file : List ℕ) (s : Sizes) : Type 0 where
   long : length file ≡ field_of file 0
   sizes_are : record { rows = field_of file 4; columns = field_of file 6 } ≡ s
 
+-- what the one gives the other gives; a check before it changes nothing of that
+Only : Outcome Sizes → Outcome Sizes → Type 0
+Only o q = (s : Sizes) → o ≡ gives s → q ≡ gives s
+
+only_same : (q : Outcome Sizes) → Only q q
+unfolding Only
+only_same q s e = e
+
+only_none : (n : ℕ) (q : Outcome Sizes) → Only (refused n) q
+unfolding Only
+only_none n q s e = no_result n s e
+
+only_then : (n : ℕ) (test : Bool) (o q : Outcome Sizes) → Only o q → Only (refuse n test >> o) q
+unfolding Only
+only_then n true o q d s e = no_result n s e
+only_then n false o q d s e = d s e
+
+-- wherever the kind is tried, a header of another kind is refused
+kind_tried : (most : ℕ) (file : List ℕ) → (field_of file 2 ≡ 32 → ⊥) → Only (header_under most file) (refused 2)
+unfolding header_under
+kind_tried most file k = rw (ne_eqb (field_of file 2) 32 k) (search (only_then, only_none))
+
+kind_told : (most : ℕ) (file : List ℕ) (s : Sizes) → header_under most file ≡ gives s → field_of file 2 ≡ 32
+unfolding Only
+kind_told most file s e = told (eqb (field_of file 2) 32) refl
+  where
+    told : (b : Bool) → eqb (field_of file 2) 32 ≡ b → field_of file 2 ≡ 32
+    told true q = eqb-true _ _ q
+    told false q = no_result 2 s (kind_tried most file (λ h. never (sym q ∙ eq-eqb _ _ h)) s e)
+
+-- and the sizes are tried last
+sizes_tried : (most : ℕ) (file : List ℕ) → Only (header_under most file) (sizes_under most file)
+unfolding header_under
+sizes_tried most file = search (only_then, only_same)
+
 header-passed : (most : ℕ) (file : List ℕ) (s : Sizes) → header_under most file ≡ gives s → Passed most file s
-unfolding header_under sizes_under
+unfolding sizes_under Only
 header-passed most file s e =
-    let c1 = passed 1 (ltb (length file) 4) _ s e in
-    let c2 = passed 2 (not (eqb (field_of file 2) 32)) _ s c1.1 in
-    let c3 = passed 1 (ltb (length file) 8) _ s c2.1 in
-    let c4 = passed 1 (ltb (length file) (field_of file 0)) _ s c3.1 in
-    let c5 = passed 3 (outside most_rows (field_of file 4)) _ s c4.1 in
+    let c4 = sizes_tried most file s e in
+    let c5 = passed 3 (outside most_rows (field_of file 4)) _ s c4 in
     let c6 = passed 3 (outside most (field_of file 6)) _ s c5.1 in
     let c7 = passed 4 (not (eqb (field_of file 0) (file_length (field_of file 4) (field_of file 6)))) _ s c6.1 in
     let c8 = passed 4 (not (eqb (length file) (field_of file 0))) _ s c7.1 in
     record {
-      kind_is = eqb-true _ _ (not-false _ c2.0);
+      kind_is = kind_told most file s e;
       rows_in = c5.0;
       columns_in = c6.0;
       length_is = eqb-true _ _ (not-false _ c7.0);

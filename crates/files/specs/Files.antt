@@ -9,7 +9,6 @@ use Rattle.fields.specs.Fields.{field_of, field_bytes, width, bit_of, packed}
 use Rattle.fields.specs.Strings.{any_spare}
 use Rattle.files.specs.Matrix.{Matrix, Sizes, tabled, bit, total, most_rows}
 use Rattle.files.specs.declared.headers.Checked.{Checked}
-use Rattle.files.specs.declared.headers.Checked.TheVariants as Checked
 
 -- the length that a matrix file of m rows and n columns has
 abbrev pub file_length : ℕ → ℕ → ℕ

@@ -1,7 +1,8 @@
 -- Matrices as values: m, n and every bit fix a matrix, and any bits make one. Assumes nothing.
 use Rattle.std.specs.Prelude.{ℕ, ◌+◌, ◌*◌, ◌^◌, ◌≤◌, ◌<◌, ◌≡◌, List, length, get_or}
 use Rattle.std.proofs.Common.{◌∙◌, arith}
-use Rattle.laws.specs.Digits.{digit, number_shift, number-digit}
+use Rattle.laws.specs.Digits.{digit, number_shift}
+use Rattle.laws.proofs.Digits.{number-digit}
 use Rattle.laws.specs.Lists.{upto, length-upto, get_d_upto, length-blocks, get_d_blocks, blocks-each, table_ext}
 use Rattle.files.specs.Matrix.{Matrix, tabled, bit, p}
 

@@ -5,7 +5,7 @@ use Rattle.laws.specs.Digits.{number}
 use Rattle.laws.specs.Lists.{blocks, upto}
 use Rattle.fields.specs.Limits.{most_columns, outside}
 
--- m is 1 to 128, and n 1 to `most-columns`
+-- m is 1 to 128, and n 1 to `most_columns`
 abbrev pub most_rows : ℕ
 most_rows = 128
 

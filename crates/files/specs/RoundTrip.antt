@@ -8,7 +8,8 @@ use native.Mathlib.Omega.{arith}
 use borrow.Author.Tests.{le-ltb, ltb-false}
 use Rattle.std.proofs.Math.ListN.{length}
 use Rattle.laws.specs.Sums.{any-all, any_false}
-use Rattle.laws.specs.Digits.{number, number_shift, number-digit, digit}
+use Rattle.laws.specs.Digits.{number, number_shift, digit}
+use Rattle.laws.proofs.Digits.{number-digit}
 use Rattle.laws.specs.Lists.{blocks, upto, get_d_blocks, length-blocks, get_d_upto, table_ext, take-is}
 use Rattle.laws.specs.Lay.{lay, length-lay, take-lay, at_front}
 use Rattle.laws.specs.Outcome.{gives, refuse, ◌>>◌, passed, bound, gives_inj}

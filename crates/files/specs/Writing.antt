@@ -23,7 +23,8 @@ use Rattle.files.specs.Checks.{total-is, not_above}
 -- ---- the header that is written
 module _ (m n room : ℕ) where
   -- past the sizes
-  head_is : write_header_of m n room ≡ (refuse 3 (sizes_outside m n) >> (refuse 13 (ltb room (file_length m n)) >> gives (header_bytes m n)))
+  head_is : write_header_of m n room ≡
+      (refuse 3 (sizes_outside m n) >> (refuse 13 (ltb room (file_length m n)) >> gives (header_bytes m n)))
   unfolding write_header_under
   head_is = sizes-refuse m n _
 
@@ -116,7 +117,8 @@ header-laid file x1 x2 x3 x4 len m n e1 e2 e3 e4 e h =
     let l1 = laid-field 0 (file_length m n) (rw e at e1) (laid_none 0 file) refl (omega arith) in
     let l2 = laid-field 2 32 e2 l1 refl (omega arith) in
     let l3 = laid-field 4 m e3 l2 refl (omega arith) in
-    (laid-field 6 n e4 l3 refl (omega arith)).is ∙ lay-is (field_bytes (file_length m n) ++ field_bytes 32 ++ field_bytes m ++ field_bytes n) file
+    (laid-field 6 n e4 l3 refl (omega arith)).is ∙
+    lay-is (field_bytes (file_length m n) ++ field_bytes 32 ++ field_bytes m ++ field_bytes n) file
   where
     -- a field behind those before it
     laid-field : (at x : ℕ) {now now' xs : List ℕ} → now' ≡ stored now at x → Laid 0 xs file now → at ≡ 0 + length xs →

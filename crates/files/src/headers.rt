@@ -13,7 +13,7 @@ use fields::{COLUMNS, Refusal, Written, field, outside, put_field, width};
 pub const ROWS: usize = 128;
 
 // A refusal, or the sizes of a matrix.
-#[derive(Drop)]
+#[derive(Clone, Copy)]
 pub enum Checked {
     Refused(Refusal),
     Matrix { rows: usize, columns: usize },

@@ -2,6 +2,8 @@
 //
 // Every operation takes any content and any length, and answers a result or one refusal. Its contract cites one definition of
 // specs/Files.antt, which gives the outcome; a lent buffer ends as it began, with what the outcome lays at its front.
+#![tactic(auto)]
+
 mod headers;
 mod live;
 mod reading;
