@@ -1,7 +1,8 @@
 -- Long division gives a row's number: the largest n-bit number not above 2^n × w / s, for every n. Assumes nothing.
 use Prim.Native.Nat.{ℕ, zero, suc, ◌+◌, ◌-◌, ◌*◌, ◌/◌, ◌^◌, ◌≤◌, ◌<◌}
 use Rattle.std.specs.Prelude.{◌≡◌, refl, Bool, true, false, leb}
-use Rattle.std.proofs.Common.{sym, ◌∙◌, add-suc, eq-or-lt_of_le, le_trans, mul-le-mul_left, mul-le-mul_right, div-mul-le_self, le-div_iff_mul-le, add-one, le-leb, leb-true, leb-false, pow_pos}
+use Rattle.std.proofs.Common.{sym, ◌∙◌, add-suc, eq-or-lt_of_le, le_trans, mul-le-mul_left, mul-le-mul_right, div-mul-le_self}
+use Rattle.std.proofs.Common.{le-div_iff_mul-le, add-one, le-leb, leb-true, leb-false, pow_pos}
 use Rattle.std.proofs.Math.Path.{ap}
 use Rattle.std.proofs.Math.Logic.{⊎_elim}
 use native.Mathlib.Omega.{arith}
@@ -9,7 +10,8 @@ use Rattle.std.proofs.Math.Nat.{pow-succ', add-zero, le_of_mul-le-mul_right, min
 use Rattle.std.proofs.lemmas.Bool.{lt-leb}
 use Rattle.std.proofs.Math.Arith.{digits_div}
 use Rattle.laws.specs.Tests.{reached, lt-or_ge}
-use Rattle.laws.specs.Digits.{number, number_more, number_lt, number_shift, digit, digit-number}
+use Rattle.laws.specs.Digits.{number, number_more, number_lt, number_shift, digit}
+use Rattle.laws.proofs.Digits.{digit-number}
 use Rattle.fields.specs.Fields.{padded, padded-below, padded-above, padded-both}
 use Rattle.weights.specs.Weights.{share, next_rest, next_bit, rest_after, quotient, Stepped}
 

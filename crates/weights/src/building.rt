@@ -13,7 +13,7 @@ use fields::{Refusal, Written, width};
 use files::{sizes_outside, write_header};
 
 // What the weights stand for: weight v serves sample v, or distance v on both sides of 0.
-#[derive(Drop)]
+#[derive(Clone, Copy)]
 pub enum Usage {
     Plain,
     Signed,

@@ -7,7 +7,7 @@ ghost use Rattle.weights.specs.Weights.{Divided, Stepped, quotient};
 use fields::width;
 
 // One step of a long division: the next bit of the quotient, and what is left.
-#[derive(Drop)]
+#[derive(Clone, Copy)]
 struct Step {
     bit: u8,
     rest: u64,
@@ -39,7 +39,7 @@ fn kept(bit: u8, c: usize, n: usize) -> u8
 }
 
 // Eight steps: their bits as a byte, the first the highest, 0 from bit `left` on; and what is left.
-#[derive(Drop)]
+#[derive(Clone, Copy)]
 struct Division {
     byte: u8,
     rest: u64,
