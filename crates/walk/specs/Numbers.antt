@@ -5,8 +5,9 @@ use Rattle.std.proofs.Math.Nat.{div-eq_of_lt-le}
 use Rattle.std.proofs.Math.ListN.{get_or}
 use Rattle.std.proofs.Math.Pow.{high}
 use Rattle.std.proofs.Math.Seq.{get_or-take}
-use Rattle.laws.specs.Digits.{number, digit, digit-le, number_more, number-split, number_lt, number_shift, number-digit}
-use Rattle.laws.specs.Digits.{digit-number}
+use Rattle.laws.specs.Digits.{number, digit, digit-le, number_more, number-split, number_lt, number_shift}
+use Rattle.laws.proofs.Digits.{number-digit}
+use Rattle.laws.proofs.Digits.{digit-number}
 use Rattle.laws.specs.Lists.{upto, length-upto, get_d_upto}
 use Rattle.fields.specs.Fields.{bit_of}
 use Rattle.walk.specs.Strings.{Bits}

@@ -10,7 +10,6 @@ use Rattle.files.specs.Files.{matrix_under}
 use Rattle.fields.specs.Refusal.{number_of}
 use Rattle.fields.specs.Strings.{strings_under}
 use Rattle.walk.specs.declared.Walked.{Walked}
-use Rattle.walk.specs.declared.Walked.TheVariants as Walked
 -- what a walk draws, the code's own type: a row, hit in a column, or nothing
 pub use Rattle.walk.specs.declared.Drawn.{Drawn}
 pub use Rattle.walk.specs.declared.Drawn.TheVariants.{Hit as hit, Miss as miss}
@@ -84,7 +83,7 @@ abbrev pub file_rows : List ℕ → ℕ → ℕ → ℕ → ℕ
 file_rows file n v = bit_of file (8 + v * width n)
 
 -- the walk of these rows, as many and as long as the file's fields say, on the bits from byte `at` on: where the file has a matrix it is
--- the walk of that matrix (`drawAt-is`, walk/Ways)
+-- the walk of that matrix (`draw_at_is`, walk/Ways)
 unfoldable pub draw_at : List ℕ → List ℕ → ℕ → Drawn
 draw_at file strings at = walk (file_rows file (field_of file 6)) (field_of file 4) 0 0 (upto (field_of file 6) (bit_of strings at))
 

@@ -2,6 +2,8 @@
 //
 // It takes any file and any string, of any length, and answers a row or a miss with the columns used (02, order 1), or one refusal. Its
 // contract cites `walk_of` of specs/Walk.antt; what holds of what it answers, and of all strings together, is in specs/Theorems.antt.
+#![tactic(auto)]
+
 ghost use Rattle.std.specs.Prelude.{◌≡◌};
 ghost use Rattle.walk.specs.Walk.{draw_at, used_at, walked, walk_of};
 
@@ -9,7 +11,7 @@ use fields::{Refusal, Strings, bit, check_strings, field, width};
 use files::{Checked, check};
 
 // A refusal; or the row that the walk hits, or a miss, each with the columns that it has used.
-#[derive(Drop)]
+#[derive(Clone, Copy)]
 pub enum Walked {
     Refused(Refusal),
     Hit { row: usize, used: usize },
@@ -17,7 +19,7 @@ pub enum Walked {
 }
 
 // What a walk draws: the row that it hits, with its column, or a miss. It is the type of the definitions in specs/Walk.antt.
-#[derive(Drop)]
+#[derive(Clone, Copy)]
 pub enum Drawn {
     Hit { row: usize, column: usize },
     Miss,
