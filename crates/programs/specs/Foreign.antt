@@ -2,16 +2,14 @@
 -- what an instruction that is cut comes to. Assumes nothing.
 use Rattle.std.specs.Prelude.{ℕ, ◌≤◌, ◌<◌, ◌≡◌, not, List, ◌++◌, ◌⊎◌, eqb, ltb, length, take}
 use Rattle.std.proofs.Common.{◌∙◌, inl, inr, arith, length-append, length-take-le}
-use borrow.Author.Tests.{lt-ltb, le-ltb, ltb-true}
+use borrow.Author.Tests.{lt-ltb, le-ltb}
 use Rattle.laws.specs.Tests.{lt-or_ge}
 use Rattle.laws.specs.Outcome.{Outcome, refused, refuse, ◌>>◌}
-use Rattle.laws.specs.Changes.{Changed}
 use Rattle.fields.specs.Fields.{field_of, field-front}
-use Rattle.fields.specs.Foreign.{Foreign, kind-first}
 use Rattle.programs.specs.Instructions.{length_of, instruction_bytes, decode_of}
 use Rattle.programs.specs.Reading.{length_instruction}
 use Rattle.programs.specs.Inverse.{decode_reads, decode_written}
-use Rattle.programs.specs.Header.{header_length, header_kind, numbers_of, limits_of, header_under, header_of}
+use Rattle.programs.specs.Header.{header_length, header_kind, numbers_of, limits_of}
 use Rattle.programs.specs.declared.description.Program.{Program}
 use Rattle.programs.specs.declared.description.Instruction.{Instruction}
 
@@ -25,13 +23,6 @@ header_short_first file = do
   refuse 1 (ltb (length file) header_length)
   refuse 2 (not (eqb (field_of file 2) header_kind))
   limits_of file (numbers_of file)
-
--- ---- the answers that changed
-pub header_changed : (file : List ℕ) → Changed (Foreign header_kind file × Short file) 1 2 (header_short_first file) (header_of file)
-unfolding header_short_first header_under
-header_changed file =
-    kind-first header_kind file (Short file) (ltb (length file) header_length)
-    (ltb-true (length file) header_length, lt-ltb (length file) header_length) (λ h. omega arith) (limits_of file (numbers_of file))
 
 -- ---- an instruction keeps 1 before 7: cut short it is 1, whatever its kind
 module _ (bytes : List ℕ) where

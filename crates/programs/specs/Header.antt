@@ -8,7 +8,6 @@ use Rattle.programs.specs.Records.{record_bytes}
 use Rattle.programs.specs.Instructions.{instruction_bytes}
 use Rattle.programs.specs.declared.description.Program.{Program}
 use Rattle.programs.specs.declared.headers.Checked.{Checked}
-use Rattle.programs.specs.declared.headers.Checked.TheVariants as Checked
 use Rattle.programs.specs.declared.description.Instruction.{Instruction}
 
 -- the length and the kind of a program's header

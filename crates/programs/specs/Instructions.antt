@@ -6,7 +6,6 @@ use Rattle.fields.specs.Refusal.{number_of}
 use Rattle.programs.specs.Records.{record_bytes}
 use Rattle.programs.specs.declared.description.Instruction.{Instruction}
 use Rattle.programs.specs.declared.instructions.Decoded.{Decoded}
-use Rattle.programs.specs.declared.instructions.Decoded.TheVariants as Decoded
 use Rattle.programs.specs.declared.description.Instruction.TheVariants.{Ones, Zero, Input, Not, And, Or, Output}
 
 -- ---- 01's table: kind, length and operands

@@ -15,7 +15,8 @@ use Rattle.programs.specs.Limits.{most_instructions, most_inputs, within, within
 use Rattle.programs.specs.Records.{record_bytes}
 use Rattle.programs.specs.Reading.{length_fields, length_instruction, encode_gives}
 use Rattle.programs.specs.Reading.{header-long, header-numbers, write_header-gives}
-use Rattle.programs.specs.Instructions.{of_kind, sized_of, kind_of, length_of, operands_of, instruction_bytes, encode_of, decode_of, decode_at}
+use Rattle.programs.specs.Instructions.{of_kind, sized_of, kind_of, length_of, operands_of, instruction_bytes, encode_of, decode_of}
+use Rattle.programs.specs.Instructions.{decode_at}
 use Rattle.programs.specs.Header.{header_length, header_kind, header_bytes, numbers_of}
 use Rattle.programs.specs.Header.{header_under, header_of, limits_under, write_header_under, write_header_of}
 use Rattle.programs.specs.declared.description.Program.{Program}
@@ -49,7 +50,8 @@ unfolding decode_of sized_of
 decode_reads bytes i e =
     let c1 = passed 1 (ltb (length bytes) 4) _ i e in
     let c2 = passed 1 (ltb (length bytes) (field_of bytes 0)) _ i c1.1 in
-    let c3 = bound (of_kind (field_of bytes 2) (field_of bytes 4) (field_of bytes 6) (field_of bytes 8)) (sized_of (field_of bytes 0)) i c2.1 in
+    let c3 = bound (of_kind (field_of bytes 2) (field_of bytes 4) (field_of bytes 6) (field_of bytes 8)) (sized_of (field_of bytes 0)) i
+    c2.1 in
     let c4 = passed 7 (not (eqb (field_of bytes 0) (length_of c3.0))) (gives c3.0) i c3.2 in
     let l : field_of bytes 0 ≡ length_of c3.0 = eqb-true (field_of bytes 0) (length_of c3.0) (not-false _ c4.0) in
     let q : c3.0 ≡ i = gives_inj c4.1 in
@@ -100,7 +102,8 @@ named bytes i r =
     d : ℕ
     d = field_of bytes 8
 
-    tried : (n : ℕ) (j : Instruction) {o : Outcome Instruction} → n ≡ kind_of j → operands_of j ≡ fields_of (length (operands_of j)) 4 bytes →
+    tried : (n : ℕ) (j : Instruction) {o : Outcome Instruction} → n ≡ kind_of j →
+        operands_of j ≡ fields_of (length (operands_of j)) 4 bytes →
         (o ≡ gives i → Named bytes i) → cond (eqb (field_of bytes 2) n) (gives j) o ≡ gives i → Named bytes i
     tried n j {o} e q later =
         either_test (eqb (field_of bytes 2) n) i j o
@@ -115,22 +118,33 @@ pub record HeaderReadsUnder (wide many : ℕ) (file : List ℕ) (p : Program) : 
   pub inside : within_under wide many p ≡ true
   pub numbers : numbers_of file ≡ p
 
+-- in whatever order they are tried
+limits-read : (wide long : ℕ) (file : List ℕ) (p q : Program) → limits_under wide long file p ≡ gives q →
+    (eqb (field_of file 0) header_length ≡ true) × (within_under wide long p ≡ true) × (p ≡ q)
+unfolding limits_under
+limits-read wide long file p q = go (eqb (field_of file 0) header_length) (within_under wide long p) refl refl
+  where
+    go : (l w : Bool) → eqb (field_of file 0) header_length ≡ l → within_under wide long p ≡ w → limits_under wide long file p ≡ gives q →
+        (eqb (field_of file 0) header_length ≡ true) × (within_under wide long p ≡ true) × (p ≡ q)
+    go true true a b e = (a, b, gives_inj (simp (a, b) at e))
+    go true false a b e = no_result _ q (simp (a, b) at e)
+    go false true a b e = no_result _ q (simp (a, b) at e)
+    go false false a b e = no_result _ q (simp (a, b) at e)
+
 pub header-reads_under : (wide long : ℕ) (file : List ℕ) (p : Program) → header_under wide long file ≡ gives p →
     HeaderReadsUnder wide long file p
 unfolding header_under limits_under
 header-reads_under wide long file p e =
-    let c1 = passed 1 (ltb (length file) 4) _ p e in
+    let c1 = passed _ (ltb (length file) 4) _ p e in
     let c2 = passed 2 (not (eqb (field_of file 2) header_kind)) _ p c1.1 in
     let c3 = passed 1 (ltb (length file) header_length) _ p c2.1 in
-    let c4 = passed 4 (not (eqb (field_of file 0) header_length)) _ p c3.1 in
-    let c5 = passed 3 (not (within_under wide long (numbers_of file))) _ p c4.1 in
-    let q : numbers_of file ≡ p = gives_inj c5.1 in
+    let c4 = limits-read wide long file (numbers_of file) p c3.1 in
     record {
       room = ltb-false (length file) header_length c3.0;
-      long = eqb-true (field_of file 0) header_length (not-false _ c4.0);
+      long = eqb-true (field_of file 0) header_length c4.0;
       kind = eqb-true (field_of file 2) header_kind (not-false _ c2.0);
-      inside = ap (within_under wide long) (sym q) ∙ not-false _ c5.0;
-      numbers = q;
+      inside = ap (within_under wide long) (sym c4.2) ∙ c4.1;
+      numbers = c4.2;
     }
 
 -- at the limits
@@ -249,7 +263,8 @@ module _ (file : List ℕ) (at : ℕ) (i : Instruction) (byte : (k : ℕ) → ge
   pub decode_then_encode : encode_of i at (length file) ≡ gives (take (length_of i) (drop at file))
   decode_then_encode =
       encode_gives i at (length file) fits ∙
-      ap gives (front-is (length_of i) (instruction_bytes i) (drop (length_of i) (drop at file)) (drop at file) (length_instruction i) stands)
+      ap gives (front-is (length_of i) (instruction_bytes i) (drop (length_of i) (drop at file)) (drop at file) (length_instruction i)
+      stands)
 
   pub decode_then_encode_same : lay_at at (laid (λ bytes. bytes) (encode_of i at (length file))) file ≡ file
   decode_then_encode_same =

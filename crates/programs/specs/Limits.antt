@@ -4,7 +4,7 @@ use Rattle.fields.specs.Limits.{outside}
 use Rattle.programs.specs.Width.{row_bits}
 use Rattle.programs.specs.declared.description.Program.{Program}
 
--- Definitions `..Under` are told how many inputs and instructions they allow, so that limits can be compared (engine/Raised); those that
+-- Definitions `.._under` are told how many inputs and instructions they allow, so that limits can be compared (engine/Raised); those that
 -- contracts cite are the same at these limits.
 abbrev pub most_registers : ℕ
 most_registers = 1024

@@ -15,7 +15,8 @@ use Rattle.programs.specs.Width.{row_bits, ranged, few_bits}
 use Rattle.programs.specs.Limits.{most_registers, most_inputs, most_outputs, most_rows, most_instructions}
 use Rattle.programs.specs.Limits.{among, value_bits, suited, within_under, within}
 use Rattle.programs.specs.Records.{record_bytes, length_record, field-after}
-use Rattle.programs.specs.Instructions.{of_kind, sized_of, kind_of, length_of, operands_of, instruction_bytes, encode_of, decode_of, decode_at}
+use Rattle.programs.specs.Instructions.{of_kind, sized_of, kind_of, length_of, operands_of, instruction_bytes, encode_of, decode_of}
+use Rattle.programs.specs.Instructions.{decode_at}
 use Rattle.programs.specs.Header.{header_length, header_kind, header_bytes, numbers_of}
 use Rattle.programs.specs.Header.{header_under, header_of, limits_of, write_header_under, write_header_of}
 use Rattle.programs.specs.declared.description.Program.{Program}
@@ -183,21 +184,20 @@ encode_gives i at room h = rw (le-ltb room (at + length_of i) h)
 -- the two ways in which it ends: its answer, and what the buffer then holds
 module _ (i : Instruction) (at : ℕ) (buf : List ℕ) where
   pub encode_no_room : length buf < at + length_of i →
-      (refused 13 ≡ mapped length (encode_of i at (length buf))) × (buf ≡ lay_at at (laid (λ bytes. bytes) (encode_of i at (length buf))) buf)
+      (refused 13 ≡ mapped length (encode_of i at (length buf))) ×
+      (buf ≡ lay_at at (laid (λ bytes. bytes) (encode_of i at (length buf))) buf)
   unfolding encode_of
   encode_no_room h = rw (lt-ltb (length buf) (at + length_of i) h) (refl, lay_at-nothing at buf)
 
-  pub encode_room : (long : ℕ) (now : List ℕ) → long ≡ length_of i → at + length_of i ≤ length buf → now ≡ lay_at at (instruction_bytes i) buf →
-      (gives long ≡ mapped length (encode_of i at (length buf))) × (now ≡ lay_at at (laid (λ bytes. bytes) (encode_of i at (length buf))) buf)
+  pub encode_room : (long : ℕ) (now : List ℕ) → long ≡ length_of i → at + length_of i ≤ length buf →
+      now ≡ lay_at at (instruction_bytes i) buf →
+      (gives long ≡ mapped length (encode_of i at (length buf))) ×
+      (now ≡ lay_at at (laid (λ bytes. bytes) (encode_of i at (length buf))) buf)
   encode_room long now q h e = rw (encode_gives i at (length buf) h) (ap gives (q ∙ sym (length_instruction i)), e)
 
 -- ---- a header
 -- a file of four bytes or more is tried by its kind, and one under four is too short for that
 module _ (file : List ℕ) where
-  pub header-few : length file < 4 → refused 1 ≡ header_of file
-  unfolding header_under
-  header-few h = rw (lt-ltb (length file) 4 h)
-
   pub header_foreign : 4 ≤ length file → (field_of file 2 ≡ header_kind → ⊥) → refused 2 ≡ header_of file
   unfolding header_under
   header_foreign a k = rw (le-ltb (length file) 4 a, ne_eqb (field_of file 2) header_kind k)

@@ -40,7 +40,7 @@ fewest x k j s h = omega (arith, lt_of_not-le fewer)
 needed_one : (x k j : ℕ) → Needed x k → Needed x j → k ≡ j
 needed_one x k j a b = omega (arith, fewest x k j a b.below, fewest x j k b a.below)
 
--- ---- it is what `bitsToWrite` says
+-- ---- it is what `bits_to_write` says
 -- the next number needs the bits that `widened` says
 next_needed : (x k : ℕ) (b : Bool) → ltb (suc x) (2 ^ k) ≡ b → Needed x k → Needed (suc x) (cond b k (suc k))
 next_needed x k true e s = record { below = ltb-true (suc x) (2 ^ k) e; not_below = λ h. omega (arith, s.not_below h) }

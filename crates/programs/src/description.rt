@@ -6,7 +6,7 @@ ghost use Rattle.programs.specs.Instructions.{length_of};
 use crate::rows::suited;
 
 // The numbers of a program's header.
-#[derive(Drop)]
+#[derive(Clone, Copy)]
 pub struct Program {
     pub registers: usize,
     pub inputs: usize,
@@ -16,7 +16,7 @@ pub struct Program {
 }
 
 // The seven instructions: the register to write or the output to set, then what is read.
-#[derive(Drop)]
+#[derive(Clone, Copy)]
 pub enum Instruction {
     Ones(u16),
     Zero(u16),

@@ -11,13 +11,14 @@ use crate::storing::{put, put_five};
 use fields::{Refusal, Written, field};
 
 // A refusal, or a program's header.
-#[derive(Drop)]
+#[derive(Clone, Copy)]
 pub enum Checked {
     Refused(Refusal),
     Program(Program),
 }
 
 // The header at the front of a file: refusals 1 for under four bytes, 2, 1 for a header cut short, 4, 3 (02, orders 3 and 10).
+#[tactic(auto, using(crate::proofs::Reading::short_headers))]
 pub fn read_header(file: &[u8]) -> Checked
     ensures { checked result ≡ header_of file.now }
 {

@@ -10,7 +10,7 @@ use crate::storing::{put_five, put_four, put_three};
 use fields::{Refusal, Written, field};
 
 // A refusal, or an instruction.
-#[derive(Drop)]
+#[derive(Clone, Copy)]
 pub enum Decoded {
     Refused(Refusal),
     Instruction(Instruction),

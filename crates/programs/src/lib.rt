@@ -1,4 +1,6 @@
 // The description of a Boolean program: its limits, its rows, its header, its instructions and their bytes (01, "Files"; 02, order 10).
+#![tactic(auto)]
+
 mod description;
 mod headers;
 mod instructions;
