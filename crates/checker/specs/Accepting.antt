@@ -1,23 +1,17 @@
 -- What a program must be to be accepted, as a judgment on its instructions, with laws for lists of them: the checker's tests from the other
 -- side. Assumes nothing.
-use Rattle.std.specs.Prelude.{ℕ, zero, suc, ◌<◌, ◌≡◌, refl, Bool, true, false, not, ◌||◌, List, [], ◌∷◌, ◌++◌, ◌⊎◌, eqb, length, drop}
-use Rattle.std.proofs.Common.{sym, ap, ◌∙◌, inl, inr, ⊎_elim, arith, eq-eqb, eqb-true, drop_at}
+use Rattle.std.specs.Prelude.{ℕ, zero, suc, ◌<◌, ◌≡◌, refl, Bool, true, false, ◌||◌, List, [], ◌∷◌, ◌++◌, ◌⊎◌, eqb, length}
+use Rattle.std.proofs.Common.{sym, inl, inr, arith, eq-eqb, eqb-true}
 use Rattle.std.proofs.Math.Bool.{or-true}
 use Rattle.std.proofs.Math.Logic.{⊎_map}
-use Rattle.laws.specs.Every.{each-every, OneOf}
-use Rattle.laws.specs.Sums.{any-all}
+use Rattle.laws.specs.Every.{OneOf}
 use Rattle.laws.specs.Lists.{blocks, Each, each_more}
-use Rattle.laws.specs.Outcome.{gives}
 use Rattle.programs.specs.Limits.{within}
-use Rattle.programs.specs.Instructions.{uses, length_of, instruction_bytes}
-use Rattle.programs.specs.Header.{header_length, header_bytes, code_bytes, program_file}
-use Rattle.programs.specs.Reading.{length_instruction, header-long}
-use Rattle.programs.specs.Inverse.{decode_written, header-written}
+use Rattle.programs.specs.Instructions.{uses}
 use Rattle.programs.specs.declared.description.Program.{Program}
 use Rattle.programs.specs.declared.description.Instruction.{Instruction}
-use Rattle.checker.specs.Checks.{also, instruction_of, code_of, nothing, check_under, check_of}
+use Rattle.checker.specs.Checks.{also}
 use Rattle.checker.specs.Standing.{InRange}
-use Rattle.checker.specs.Operands.{range-holds}
 
 -- ---- the judgment
 -- each operand is below its count
@@ -105,37 +99,3 @@ also-says t (x ∷ xs) r e = first (eqb x r) refl (λ q. also-says t xs r q) e
         OneOf (x ∷ xs) r ⊎ (t r ≡ true)
     first true q later e = inl (inl (sym (eqb-true x r q)))
     first false q later e = ⊎_map (λ y. inr y) (λ y. y) (later e)
-
--- the instructions, where those before them wrote and set what passes the tests
-code-accepted : (is : List Instruction) (p : Program) (W : ℕ → Type 0) (written set : ℕ → Bool) → ((r : ℕ) → W r → written r ≡ true) →
-    ((o : ℕ) → o < p.outputs → Sets o is ⊎ (set o ≡ true)) → Each (Fits p) is → Ready W is Nowhere →
-    code_of (length is) p written set (code_bytes is) ≡ gives is
-unfolding code_bytes code_of instruction_of
-code-accepted [] p W written set w s f e =
-    rw (any-all p.outputs (λ o. not (set o)) (λ o l. ap not (⊎_elim (λ (x : ⊥). absurd x) (λ (x : set o ≡ true). x) (s o l))))
-code-accepted (i ∷ is) p W written set w s f e =
-    rw (
-      decode_written i (code_bytes is),
-      range-holds p i f.0,
-      each-every written W (uses i).reads w e.0,
-      drop_at (instruction_bytes i) (code_bytes is) (length_of i) (length_instruction i),
-      code-accepted is p (λ r. OneOf (uses i).writes r ⊎ W r) (also written (uses i).writes) (also set (uses i).sets)
-          (λ r x. also-holds written (uses i).writes r (⊎_map (λ y. y) (w r) x)) (λ o l. later o (s o l)) f.1 e.1,
-    )
-  where
-    later : (o : ℕ) → (OneOf (uses i).sets o ⊎ Sets o is) ⊎ (set o ≡ true) → Sets o is ⊎ (also set (uses i).sets o ≡ true)
-    later o (inl (inl x)) = inr (also-holds set (uses i).sets o (inl x))
-    later o (inl (inr x)) = inl x
-    later o (inr x) = inr (also-holds set (uses i).sets o (inr x))
-
--- a sound program is accepted, and the checker reads it as it is
-module _ (p : Program) (is : List Instruction) (s : Sound p is) where
-  behind-header : code_of p.count p nothing nothing (drop header_length (header_bytes p ++ code_bytes is)) ≡ gives is
-  behind-header =
-      rw (drop_at (header_bytes p) (code_bytes is) header_length (header-long p))
-      (ap (λ (n : ℕ). code_of n p nothing nothing (code_bytes is)) s.counted ∙
-      code-accepted is p Nowhere nothing nothing (λ r x. absurd x) (λ o l. inl (s.all_set o l)) s.in_range s.written)
-
-  pub accepted : check_of (program_file p is) ≡ gives (record { program = p; instructions = is })
-  unfolding check_under program_file
-  accepted = rw (header-written p (code_bytes is) s.limits, behind-header)

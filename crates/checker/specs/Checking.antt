@@ -7,7 +7,7 @@ use borrow.Author.Tests.{lt-ltb, le-ltb}
 use Rattle.std.proofs.lemmas.List.{length-replicate}
 use Rattle.laws.specs.Sums.{any}
 use Rattle.laws.specs.Lists.{all_replicate}
-use Rattle.laws.specs.Outcome.{Outcome, refused, gives, ◌>>=◌, mapped, bound, gives_inj}
+use Rattle.laws.specs.Outcome.{Outcome, refused, gives, mapped, bound, gives_inj}
 use Rattle.programs.specs.Limits.{most_registers, most_inputs, most_outputs, most_instructions, within, unwritten, unset}
 use Rattle.programs.specs.Instructions.{uses, length_of}
 use Rattle.programs.specs.Header.{header_length, header_under, header_of}

@@ -1,5 +1,6 @@
 -- One instruction of a check: its operands, the marks that it leaves, and what its admission says. Assumes nothing.
-use Rattle.std.specs.Prelude.{ℕ, ◌+◌, ◌≤◌, ◌<◌, ◌≡◌, refl, Bool, true, false, not, ◌&&◌, ◌||◌, List, [], ◌∷◌, ltb, eqb, length, get_or, set, drop}
+use Rattle.std.specs.Prelude.{ℕ, ◌+◌, ◌≤◌, ◌<◌, ◌≡◌, refl, Bool, true, false, not, ◌&&◌, ◌||◌, List, [], ◌∷◌, ltb, eqb, length, get_or, set}
+use Rattle.std.specs.Prelude.{drop}
 use Rattle.std.proofs.Common.{sym, ap, ◌∙◌, arith, eq-eqb, ne_eqb, length-set, get_or-set_same, get_or-set_other}
 use Rattle.std.proofs.Math.Path.{fun_ext}
 use Rattle.std.proofs.Math.Bool.{and-true, and_assoc}
@@ -10,7 +11,7 @@ use Rattle.laws.specs.Tests.{both}
 use Rattle.laws.specs.Lists.{Each, each_more}
 use Rattle.laws.specs.Outcome.{gives, passed, bound, gives_inj}
 use Rattle.programs.specs.Limits.{most_registers, most_inputs, most_outputs, within}
-use Rattle.programs.specs.Instructions.{uses, length_of, decode_of, decode_at}
+use Rattle.programs.specs.Instructions.{uses, length_of, decode_of}
 use Rattle.programs.specs.Reading.{within_means}
 use Rattle.programs.specs.declared.description.Program.{Program}
 use Rattle.programs.specs.declared.description.Instruction.{Instruction}
@@ -113,29 +114,21 @@ marked xs n x w e r =
     rw e (record { now_flagged = flag_set w x (rw r.1 fits.0); long = length-set w x true })
 
 -- ---- one instruction
--- what an instruction that is admitted says
-pub instruction_means : (p : Program) (written : ℕ → Bool) (bytes : List ℕ) (i : Instruction) → instruction_of p written bytes ≡ gives i →
-    (decode_of bytes ≡ gives i) × (in_range p i ≡ true) × (every written (uses i).reads ≡ true)
+-- what an instruction that is admitted says, whatever is written
+admitted : (p : Program) (written : ℕ → Bool) (bytes : List ℕ) (i : Instruction) → instruction_of p written bytes ≡ gives i →
+    (decode_of bytes ≡ gives i) × (in_range p i ≡ true)
 unfolding instruction_of
-instruction_means p written bytes i e =
+admitted p written bytes i e =
     let c1 = bound (decode_of bytes) _ i e in
     let c2 = passed 8 (not (in_range p c1.0)) _ i c1.2 in
-    let c3 = passed 9 (not (every written (uses c1.0).reads)) (gives c1.0) i c2.1 in
-    let same : c1.0 ≡ i = gives_inj c3.1 in (
-      c1.1 ∙ ap gives same,
-      rw same at (not-false (in_range p c1.0) c2.0),
-      rw same at (not-false (every written (uses c1.0).reads) c3.0),
-    )
-
-pub admit_gives : (file : List ℕ) (at : ℕ) (p : Program) (written : ℕ → Bool) (i : Instruction) → gives i ≡ decode_at file at →
-    in_range p i ≡ true → every written (uses i).reads ≡ true → gives i ≡ instruction_of p written (drop at file)
-unfolding instruction_of decode_at
-admit_gives file at p written i e r w = rw (sym e, r, w)
+    let c3 = passed 9 _ (gives c1.0) i c2.1 in
+    let same : c1.0 ≡ i = gives_inj c3.1 in
+    (c1.1 ∙ ap gives same, rw same at (not-false (in_range p c1.0) c2.0))
 
 pub admit_limits : (p : Program) (written : ℕ → Bool) (bytes : List ℕ) (i : Instruction) → gives i ≡ instruction_of p written bytes →
     within p ≡ true → InRange most_registers most_inputs most_outputs i
-admit_limits p written bytes i e w = range-limits p i w (instruction_means p written bytes i (sym e)).1
+admit_limits p written bytes i e w = range-limits p i w (admitted p written bytes i (sym e)).1
 
 pub admit_room : (file : List ℕ) (at : ℕ) (p : Program) (written : ℕ → Bool) (i : Instruction) →
     gives i ≡ instruction_of p written (drop at file) → at + length_of i ≤ length file
-admit_room file at p written i e = (reads-stands file at i (instruction_means p written (drop at file) i (sym e)).0).room
+admit_room file at p written i e = (reads-stands file at i (admitted p written (drop at file) i (sym e)).0).room

@@ -33,7 +33,7 @@ fn sound_gate(
 }
 
 // Where a check is: the byte of the next instruction, and how many are still to be tried.
-#[derive(Drop)]
+#[derive(Clone, Copy)]
 pub(crate) struct Left {
     pub(crate) at: usize,
     pub(crate) more: usize,
