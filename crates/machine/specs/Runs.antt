@@ -9,7 +9,6 @@ use Rattle.machine.specs.Meaning.{Gates, word_gates, State, exec}
 use Rattle.checker.specs.Checks.{check_under}
 use Rattle.machine.specs.declared.runs.Run.{Run}
 use Rattle.machine.specs.declared.runs.Ran.{Ran}
-use Rattle.machine.specs.declared.runs.Ran.TheVariants as Ran
 
 -- what a run comes to: its answer, and the program's registers and outputs after it
 pub record Ended (A : Type 0) : Type 0 where

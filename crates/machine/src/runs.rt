@@ -13,7 +13,7 @@ use fields::{Refusal, lesser};
 use programs::{Checked, Program};
 
 // What a run answers: whether it finished or stopped, at which position, the instructions it carried out, and the budget it had.
-#[derive(Drop)]
+#[derive(Clone, Copy)]
 pub struct Run {
     pub finished: bool,
     pub position: u32,
@@ -22,7 +22,7 @@ pub struct Run {
 }
 
 // A refusal, or a run.
-#[derive(Drop)]
+#[derive(Clone, Copy)]
 pub enum Ran {
     Refused(Refusal),
     Done(Run),

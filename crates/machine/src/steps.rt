@@ -81,7 +81,7 @@ fn step_at(
 }
 
 // Where a run is: the byte of its next instruction, and how many are still to be carried out.
-#[derive(Drop)]
+#[derive(Clone, Copy)]
 pub(crate) struct Left {
     pub(crate) at: usize,
     pub(crate) more: usize,
