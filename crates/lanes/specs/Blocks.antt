@@ -8,7 +8,8 @@ use Rattle.std.specs.Int.Bits.{bit_or}
 use Rattle.std.proofs.lemmas.Nat.{or_shifted}
 use Rattle.std.proofs.Math.ListN.{get_or, get_or-eq_default}
 use Rattle.laws.specs.Tests.{lt-or_ge}
-use Rattle.laws.specs.Digits.{number, digit, Spelt, number-split, number_shift, number_lt, number-digit, digit-number}
+use Rattle.laws.specs.Digits.{number, digit, Spelt, number-split, number_shift, number_lt}
+use Rattle.laws.proofs.Digits.{number-digit, digit-number}
 use Rattle.laws.specs.Words.{bit_at, pack-eq}
 use Rattle.laws.specs.Lists.{row-end, upto, length-upto, get_d_upto}
 use Rattle.laws.specs.Lay.{lay_at, Laid, upto-none, laid_more}

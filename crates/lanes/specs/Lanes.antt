@@ -1,6 +1,8 @@
 -- What holds lane by lane of what the operations leave in the buffers lent. Assumes nothing.
-use Rattle.std.specs.Prelude.{ℕ, zero, suc, ◌+◌, ◌-◌, ◌*◌, ◌/◌, ◌%◌, ◌^◌, ◌≤◌, ◌<◌, ◌≡◌, refl, Bool, true, false, not, cond, List, ◌↔◌, ◌⊎◌, eqb, ltb, ℤ, pos, neg_ℤ, nat_abs, length, get_or, drop}
-use Rattle.std.proofs.Common.{sym, ap, ◌∙◌, inl, inr, ⊎_elim, zero-mul, arith, lt-ltb, le-ltb, ltb-true, ltb-false, length-take, length-drop, get_or-take, get_or-drop}
+use Rattle.std.specs.Prelude.{ℕ, zero, suc, ◌+◌, ◌-◌, ◌*◌, ◌/◌, ◌%◌, ◌^◌, ◌≤◌, ◌<◌, ◌≡◌, refl, Bool, true, false, not, cond, List, ◌↔◌, ◌⊎◌}
+use Rattle.std.specs.Prelude.{eqb, ltb, ℤ, pos, neg_ℤ, nat_abs, length, get_or, drop}
+use Rattle.std.proofs.Common.{sym, ap, ◌∙◌, inl, inr, ⊎_elim, zero-mul, arith, lt-ltb, le-ltb, ltb-true, ltb-false, length-take}
+use Rattle.std.proofs.Common.{length-drop, get_or-take, get_or-drop}
 use Rattle.std.proofs.lemmas.Bool.{not-false}
 use Rattle.std.proofs.Math.ListN.{get_or-eq_default}
 use Rattle.laws.specs.Tests.{never, lt-or_ge}
@@ -62,7 +64,8 @@ module _ (n : ℕ) (strings buf : List ℕ) (k : ℕ) (e : gives k ≡ mapped le
       rw (g.1, c.is, laid-at n (word_of strings (width n)) buf i 0 h) (lane_of_word strings (width n) i j l)
 
 -- string j by itself has the bits that lane j carries
-pub string-bit : (n : ℕ) (strings : List ℕ) (j i : ℕ) → i < 8 * width n → bit_of (string_at n strings j) 0 i ≡ bit_of strings (j * width n) i
+pub string-bit : (n : ℕ) (strings : List ℕ) (j i : ℕ) → i < 8 * width n →
+    bit_of (string_at n strings j) 0 i ≡ bit_of strings (j * width n) i
 unfolding string_at packed_bit
 string-bit n strings j i h =
     ap (λ (x : ℕ). digit 8 x (i % 8))
@@ -192,7 +195,8 @@ pub signed_say : (rows : ℕ) (outputs : List ℕ) (sign : ℕ) (buf : List ℤ)
     (j : ℕ) (g : Answer) → j < lanes → sample_of rows outputs j ≡ g →
     get_or (lay (laid (λ xs. xs) (signed_samples_of rows outputs sign (length buf))) buf) j (pos 0) ≡ signed_code (bit_at sign j) g
 signed_say rows outputs sign buf e j g h q =
-    lane_read rows outputs buf (λ j. signed_code (bit_at sign j) (sample_of rows outputs j)) e j (pos 0) h ∙ ap (signed_code (bit_at sign j)) q
+    lane_read rows outputs buf (λ j. signed_code (bit_at sign j) (sample_of rows outputs j)) e j (pos 0) h ∙
+    ap (signed_code (bit_at sign j)) q
 
 -- ---- codes
 -- zero stays zero and a miss a miss, whatever the sign

@@ -2,7 +2,8 @@
 -- write it. Assumes nothing.
 use Prim.Native.Nat.{ℕ, zero, suc, ◌+◌, ◌-◌, ◌*◌, ◌%◌, ◌^◌, min, max, ◌≤◌, ◌<◌}
 use Rattle.std.specs.Prelude.{◌≡◌, refl, Bool, true, false, not, cond, List, ◌⊎◌, eqb, ltb, ℤ, pos, negsuc, neg_ℤ, ◌+ℤ◌, ◌-ℤ◌, get_or, set}
-use Rattle.std.proofs.Common.{sym, ◌∙◌, subst, ⊎_elim, eq-or-lt_of_le, mul-le-mul_left, mul-one, mul-zero, one-mul, zero-mul, SFits, to_z, of_z, lit<, get_or-set_same, get_or-set_other}
+use Rattle.std.proofs.Common.{sym, ◌∙◌, subst, ⊎_elim, eq-or-lt_of_le, mul-le-mul_left, mul-one, mul-zero, one-mul, zero-mul, SFits, to_z}
+use Rattle.std.proofs.Common.{of_z, lit<, get_or-set_same, get_or-set_other}
 use Rattle.std.proofs.Math.Path.{ap}
 use Rattle.std.proofs.Math.Logic.{inl, inr}
 use native.Mathlib.Omega.{arith}
@@ -27,7 +28,6 @@ use Rattle.walk.specs.Walk.{Answer, sample, missed}
 use Rattle.lanes.specs.Transposing.{side, front, transposed, transposed-row, Table, Front, table-set, front-set}
 use Rattle.lanes.specs.Slicing.{lanes}
 use Rattle.lanes.specs.declared.sampling.Sampled.{Sampled}
-use Rattle.lanes.specs.declared.sampling.Sampled.TheVariants as Sampled
 
 -- whether bit j of output 0 is set
 unfoldable pub lane_hits : List ℕ → ℕ → Bool

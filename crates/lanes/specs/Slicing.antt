@@ -10,7 +10,6 @@ use Rattle.fields.specs.Limits.{outside, most_columns}
 use Rattle.fields.specs.Refusal.{number_of}
 use Rattle.fields.specs.Strings.{strings_under, strings_of}
 use Rattle.lanes.specs.declared.slicing.Sliced.{Sliced}
-use Rattle.lanes.specs.declared.slicing.Sliced.TheVariants as Sliced
 
 -- the bits of a word
 abbrev pub lanes : ℕ

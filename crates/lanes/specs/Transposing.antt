@@ -1,7 +1,9 @@
 -- A table of 64 rows of 64 bits, turned over its diagonal by six rounds of shifts and masks. Assumes nothing.
-use Rattle.std.specs.Prelude.{ℕ, ◌+◌, ◌-◌, ◌*◌, ◌/◌, ◌%◌, ◌^◌, min, ◌≤◌, ◌<◌, ◌≡◌, refl, Bool, true, false, not, ◌&&◌, List, [], ◌∷◌, ◌≢◌, ◌⊎◌, eqb, ltb, length, get_or, set, replicate}
+use Rattle.std.specs.Prelude.{ℕ, ◌+◌, ◌-◌, ◌*◌, ◌/◌, ◌%◌, ◌^◌, min, ◌≤◌, ◌<◌, ◌≡◌, refl, Bool, true, false, not, ◌&&◌, List, [], ◌∷◌, ◌≢◌}
+use Rattle.std.specs.Prelude.{◌⊎◌, eqb, ltb, length, get_or, set, replicate}
 use Rattle.std.proofs.Math.Path.{sym}
-use Rattle.std.proofs.Common.{◌∙◌, subst, ⊎_elim, eq-or-lt_of_le, mul-le-mul_right, mod-lt, zero-mul, div-add-mod', arith, eqb-true, ltb-true, length-set, pow_pos, get_or-set_same, get_or-set_other}
+use Rattle.std.proofs.Common.{◌∙◌, subst, ⊎_elim, eq-or-lt_of_le, mul-le-mul_right, mod-lt, zero-mul, div-add-mod', arith, eqb-true}
+use Rattle.std.proofs.Common.{ltb-true, length-set, pow_pos, get_or-set_same, get_or-set_other}
 use Rattle.std.proofs.Math.Nat.{zero-mod, zero-div, add-mod_right, div-eq_of_lt, div-eq_of_lt-le, div-eq-sub-div}
 use Rattle.std.proofs.lemmas.Bool.{not-true, not-false}
 use Rattle.std.specs.Int.Bits.{bit_and, bit_xor}

@@ -22,7 +22,7 @@ pub const SIGNED_MISS: i16 = 32767;
 const SIGN: usize = 15;
 
 // A refusal, or that the samples of all lanes are laid down.
-#[derive(Drop)]
+#[derive(Clone, Copy)]
 pub enum Sampled {
     Refused(Refusal),
     All,

@@ -16,7 +16,7 @@ use fields::{Refusal, Strings, check_strings, lesser, width};
 pub const LANES: usize = 64;
 
 // A refusal, or how many words are laid down.
-#[derive(Drop)]
+#[derive(Clone, Copy)]
 pub enum Sliced {
     Refused(Refusal),
     Words(usize),
