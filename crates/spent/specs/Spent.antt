@@ -10,7 +10,6 @@ use Rattle.files.specs.Files.{matrix_under}
 use Rattle.walk.specs.Walk.{drawn, used}
 use Rattle.lanes.specs.Slicing.{lanes, string_bits}
 use Rattle.spent.specs.declared.Total.{Total}
-use Rattle.spent.specs.declared.Total.TheVariants as Total
 
 -- the columns that the walk of a matrix on string j has used
 abbrev pub used_on : Matrix → List ℕ → ℕ → ℕ

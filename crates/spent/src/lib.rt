@@ -1,7 +1,9 @@
 // What 64 walks of a matrix file use together (02, order 1).
 //
-// It takes any file and any strings, of any length, and answers the total or one refusal. Its contract cites `spentOf` of specs/Spent.antt;
-// what holds of the total is in specs/Theorems.antt. The file is checked once, and then walked on each string.
+// It takes any file and any strings, of any length, and answers the total or one refusal. Its contract cites `spent_of` of
+// specs/Spent.antt; what holds of the total is in specs/Theorems.antt. The file is checked once, and then walked on each string.
+#![tactic(auto)]
+
 ghost use Rattle.std.specs.Prelude.{◌≡◌};
 ghost use Rattle.laws.specs.Sums.{sum_to};
 ghost use Rattle.lanes.specs.Slicing.{lanes};
@@ -14,7 +16,7 @@ use lanes::LANES;
 use walk::used;
 
 // A refusal, or the columns that 64 walks have used together.
-#[derive(Drop)]
+#[derive(Clone, Copy)]
 pub enum Total {
     Refused(Refusal),
     Columns(usize),
