@@ -12,9 +12,7 @@ use Rattle.walk.specs.Walk.{drawn, hits}
 use Rattle.walk.specs.Numbers.{number_string}
 use Rattle.walk.specs.Packed.{packed_string}
 use Rattle.wanted.specs.declared.Wanted.{Wanted}
-use Rattle.wanted.specs.declared.Wanted.TheVariants as Wanted
 use Rattle.wanted.specs.declared.Column.{Column}
-use Rattle.wanted.specs.declared.Column.TheVariants as Column
 
 -- the smallest of the n-bit numbers, b_0 highest, on whose string the walk hits row v, if there is one
 unfoldable pub number_for : Matrix → ℕ → Option ℕ

@@ -2,8 +2,10 @@
 // file hits a row.
 //
 // `string_for` takes any file, row number and buffer, and answers that the string is laid down, that there is none, or one refusal. Its
-// contract cites `wantedOf` of specs/Wanted.antt; what holds of the string is in specs/Theorems.antt and specs/Files.antt. No string is
+// contract cites `wanted_of` of specs/Wanted.antt; what holds of the string is in specs/Theorems.antt and specs/Files.antt. No string is
 // searched for: the work is linear in the rows times the columns.
+#![tactic(auto)]
+
 ghost use Rattle.std.specs.Prelude.{◌≡◌, ◌+◌, ◌-◌, ◌*◌, ◌/◌, ◌%◌, ◌^◌, ◌≤◌, ◌<◌, eqb, length, get_or, set};
 ghost use Rattle.laws.specs.Digits.{digit};
 ghost use Rattle.laws.specs.Smallest.{smallest};
@@ -19,7 +21,7 @@ use fields::{Refusal, bit, width};
 use files::{Checked, check};
 
 // A refusal; that a string was laid down; or none, for a row that is all zero.
-#[derive(Drop)]
+#[derive(Clone, Copy)]
 pub enum Wanted {
     Refused(Refusal),
     Found,
@@ -27,7 +29,7 @@ pub enum Wanted {
 }
 
 // The first set column of a row, or that it has none.
-#[derive(Drop)]
+#[derive(Clone, Copy)]
 enum Column {
     At(usize),
     None,
