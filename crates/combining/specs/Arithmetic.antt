@@ -1,5 +1,6 @@
 -- A lane's result in the code's words of 16 and 32 bits: no sum and no product of it overflows. Assumes nothing.
-use Rattle.std.specs.Prelude.{ℕ, suc, ◌+◌, ◌≤◌, ◌<◌, ◌≡◌, refl, Bool, true, false, cond, not, ◌&&◌, ◌||◌, List, eqb, ℤ, pos, negsuc, neg_ℤ, nat_abs, ◌+ℤ◌, ◌*ℤ◌}
+use Rattle.std.specs.Prelude.{ℕ, suc, ◌+◌, ◌≤◌, ◌<◌, ◌≡◌, refl, Bool, true, false, cond, not, ◌&&◌, ◌||◌, List, eqb, ℤ, pos, negsuc, neg_ℤ}
+use Rattle.std.specs.Prelude.{nat_abs, ◌+ℤ◌, ◌*ℤ◌}
 use Rattle.std.proofs.Common.{sym, ap, ap₂, ◌∙◌, subst, ⊎_elim, one-mul, add-one, arith, eqb-true, to_z-of_z}
 use Rattle.std.proofs.Math.Facts.{to_z_pos, sfits_widen, sfits_lit}
 use Rattle.std.specs.Int.{w16, w32}
@@ -11,7 +12,7 @@ use Rattle.laws.specs.Sums.{any}
 use Rattle.laws.specs.Words.{kept}
 use Rattle.lanes.specs.Slicing.{lanes}
 use Rattle.combining.specs.Integers.{same_z_so, size_fits}
-use Rattle.combining.specs.Combination.{most_multiplier, plus_times_lem, is_signed_miss, combined_miss, result_of, is_sample, entry, unsound}
+use Rattle.combining.specs.Combination.{most_multiplier, plus_times, is_signed_miss, combined_miss, result_of, is_sample, entry, unsound}
 use Rattle.combining.specs.Combination.{result_at, times-size, plus_times-size, sample-is, value_of, SmallValue, sample-small}
 use Rattle.combining.specs.Combination.{result_is, Samples}
 
@@ -74,13 +75,14 @@ module _ (k : ℕ) (x y : ℤ) (h : k ≤ most_multiplier) (fx : SFits w32 x) (f
     pub times-fits : SFits w32 (to_z w32 k *ℤ to_z w32 (of_z w32 y))
     times-fits = rw times (size_fits (pos k *ℤ y) (omega (arith, times-size k 127127 y h m)))
 
-    plus_times_lem : to_z w32 (of_z w32 x) +ℤ to_z w32 (of_z w32 (to_z w32 k *ℤ to_z w32 (of_z w32 y))) ≡ plus_times_lem k x y
+    plus_times_lem : to_z w32 (of_z w32 x) +ℤ to_z w32 (of_z w32 (to_z w32 k *ℤ to_z w32 (of_z w32 y))) ≡ plus_times k x y
     plus_times_lem = ap₂ ◌+ℤ◌ (to_z-of_z {w = w32} {z = x} fx) (kept _ _ times-fits times)
 
     pub plus_times-fits : SFits w32 (to_z w32 (of_z w32 x) +ℤ to_z w32 (of_z w32 (to_z w32 k *ℤ to_z w32 (of_z w32 y))))
-    plus_times-fits = rw plus_times_lem (size_fits (plus_times_lem k x y) (omega (arith, plus_times-size k 127127 x y h l m)))
+    plus_times-fits = rw plus_times_lem (size_fits (plus_times k x y) (omega (arith, plus_times-size k 127127 x y h l m)))
 
-    pub plus_times-is : to_z w32 (of_z w32 (to_z w32 (of_z w32 x) +ℤ to_z w32 (of_z w32 (to_z w32 k *ℤ to_z w32 (of_z w32 y))))) ≡ plus_times_lem k x y
+    pub plus_times-is : to_z w32 (of_z w32 (to_z w32 (of_z w32 x) +ℤ to_z w32 (of_z w32 (to_z w32 k *ℤ to_z w32 (of_z w32 y))))) ≡
+        plus_times k x y
     plus_times-is = kept _ _ plus_times-fits plus_times_lem
 
 -- ---- a number, or the miss
@@ -108,8 +110,8 @@ pub small_read : (z z' : ℤ) (b : ℕ) → SFits w32 z → z ≡ z' → nat_abs
 small_read z z' b f e l = subst (λ (y : ℤ). nat_abs y ≤ b) (sym (kept z z' f e)) l
 
 pub plus_times_read : (k : ℕ) (v w x y r : ℤ) → SFits w32 v → SFits w32 w → SFits w32 r → v ≡ x → w ≡ y →
-    r ≡ plus_times_lem k (to_z w32 (of_z w32 v)) (to_z w32 (of_z w32 w)) → to_z w32 (of_z w32 r) ≡ plus_times_lem k x y
-plus_times_read k v w x y r fv fw fr ev ew e = kept _ _ fr (e ∙ ap₂ (plus_times_lem k) (kept v x fv ev) (kept w y fw ew))
+    r ≡ plus_times k (to_z w32 (of_z w32 v)) (to_z w32 (of_z w32 w)) → to_z w32 (of_z w32 r) ≡ plus_times k x y
+plus_times_read k v w x y r fv fw fr ev ew e = kept _ _ fr (e ∙ ap₂ (plus_times k) (kept v x fv ev) (kept w y fw ew))
 
 -- an entry as it is passed to a callee
 abbrev passed : ℤ → ℤ
@@ -131,7 +133,7 @@ module _ (x : ℤ) (f : SFits w16 x) where
       go false = refl
 
 pub pair_small : (first : ℕ) (x y v : ℤ) → first ≤ most_multiplier → SFits w16 x → SFits w16 y → SmallValue x → SmallValue y → SFits w32 v →
-    v ≡ plus_times_lem first (value_of (passed x)) (value_of (passed y)) → nat_abs (to_z w32 (of_z w32 v)) ≤ 127127
+    v ≡ plus_times first (value_of (passed x)) (value_of (passed y)) → nat_abs (to_z w32 (of_z w32 v)) ≤ 127127
 pair_small first x y v h f g l m fv e =
     let size = plus_times-size first 127 (value_of (passed x)) (value_of (passed y)) h (passed-small x f l) (passed-small y g m) in
     small_read v _ 127127 fv e (omega (arith, size))
@@ -144,8 +146,9 @@ pub result_read : (first second : ℕ) (x1 x2 x3 x4 low high s r : ℤ) (h1 h2 h
     h1 ≡ not (is_signed_miss (passed x1)) → h2 ≡ not (is_signed_miss (passed x2)) → h3 ≡ not (is_signed_miss (passed x3)) →
     h4 ≡ not (is_signed_miss (passed x4)) →
     SFits w32 low → SFits w32 high → SFits w32 s → SFits w32 r →
-    low ≡ plus_times_lem first (value_of (passed x1)) (value_of (passed x2)) → high ≡ plus_times_lem first (value_of (passed x3)) (value_of (passed x4)) →
-    s ≡ plus_times_lem second (to_z w32 (of_z w32 low)) (to_z w32 (of_z w32 high)) →
+    low ≡ plus_times first (value_of (passed x1)) (value_of (passed x2)) →
+    high ≡ plus_times first (value_of (passed x3)) (value_of (passed x4)) →
+    s ≡ plus_times second (to_z w32 (of_z w32 low)) (to_z w32 (of_z w32 high)) →
     r ≡ cond (h1 && h2 && h3 && h4) (to_z w32 (of_z w32 s)) combined_miss → to_z w32 (of_z w32 r) ≡ result_of first second x1 x2 x3 x4
 result_read first second x1 x2 x3 x4 low high s r h1 h2 h3 h4 f1 f2 f3 f4 e1 e2 e3 e4 fl fh fs fr el eh es er =
     let sum = plus_times_read second low high _ _ s fl fh fs el eh es in

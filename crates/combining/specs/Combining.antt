@@ -11,7 +11,6 @@ use Rattle.fields.specs.Refusal.{number_of}
 use Rattle.lanes.specs.Slicing.{lanes}
 use Rattle.combining.specs.Combination.{most_multiplier, result_at, unsound, Samples, sound_samples}
 use Rattle.combining.specs.declared.Combined.{Combined}
-use Rattle.combining.specs.declared.Combined.TheVariants as Combined
 
 -- whether a multiplier is outside 1 to 1,000
 abbrev pub unfit : ℕ → ℕ → Bool

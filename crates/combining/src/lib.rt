@@ -1,8 +1,10 @@
 // Wide bells from four narrow ones (02, order 2).
 //
 // `combine` takes any lists, of any length, and any multipliers, and lays 64 results at the front of a buffer or answers one refusal. Its
-// contract cites `combineOf` of specs/Combining.antt. No choice is made by an entry: a miss is kept out of the sums by products with 0 or
+// contract cites `combine_of` of specs/Combining.antt. No choice is made by an entry: a miss is kept out of the sums by products with 0 or
 // 1, and whether any is refused is decided once, when all entries of all lists were tried.
+#![tactic(auto)]
+
 ghost use Rattle.std.specs.Prelude.{◌≡◌, cond, not, ◌≤◌, pos, nat_abs, length};
 ghost use Rattle.laws.specs.Lists.{upto};
 ghost use Rattle.laws.specs.Lay.{lay};
@@ -25,7 +27,7 @@ pub const MULTIPLIER: usize = 1000;
 const LARGEST: i16 = 127;
 
 // A refusal, or that the results of all lanes are laid down.
-#[derive(Drop)]
+#[derive(Clone, Copy)]
 pub enum Combined {
     Refused(Refusal),
     All,
@@ -121,7 +123,7 @@ fn fill(
     second: u32,
     results: &mut [i32],
 )
-    requires first_le_most_multiplier { (first ≤ most_multiplier) × (second ≤ most_multiplier) × (lanes ≤ length results.old) }
+    requires limits { (first ≤ most_multiplier) × (second ≤ most_multiplier) × (lanes ≤ length results.old) }
     requires samples { Samples x1.now × Samples x2.now × Samples x3.now × Samples x4.now }
     ensures { let xs = upto lanes (result_at first second x1.now x2.now x3.now x4.now) in
         results.new ≡ lay xs results.old }
