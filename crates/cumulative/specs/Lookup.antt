@@ -1,6 +1,8 @@
 -- Lookup: the s that it gives is the only one with T[s] < r and r ≤ T[s+1], and is found by counting. Assumes nothing.
-use Rattle.std.specs.Prelude.{ℕ, zero, suc, ◌+◌, ◌-◌, ◌^◌, ◌≤◌, ◌<◌, min, ◌≡◌, refl, Bool, true, false, cond, ◌&&◌, List, ◌↔◌, ◌⊎◌, eqb, ltb, leb, length}
-use Rattle.std.proofs.Common.{sym, ap, ◌∙◌, subst, inl, inr, ⊎_elim, arith, add-one, eq-eqb, ne_eqb, lt-ltb, le-ltb, le-leb, ltb-true, leb-true}
+use Rattle.std.specs.Prelude.{ℕ, zero, suc, ◌+◌, ◌-◌, ◌^◌, ◌≤◌, ◌<◌, min, ◌≡◌, refl, Bool, true, false, cond, ◌&&◌, List, ◌↔◌, ◌⊎◌, eqb}
+use Rattle.std.specs.Prelude.{ltb, leb, length}
+use Rattle.std.proofs.Common.{sym, ap, ◌∙◌, subst, inl, inr, ⊎_elim, arith, add-one, eq-eqb, ne_eqb, lt-ltb, le-ltb, le-leb, ltb-true}
+use Rattle.std.proofs.Common.{leb-true}
 use Rattle.std.proofs.lemmas.Bool.{lt-leb}
 use mir.Val.{bool_byte}
 use Rattle.laws.specs.Tests.{never, both, lt-or_ge}
@@ -9,7 +11,7 @@ use Rattle.laws.specs.Outcome.{refused, gives, passed, then-gives, gives_inj}
 use Rattle.fields.specs.Limits.{outside, inside, within}
 use Rattle.walk.specs.Walk.{Answer, sample, missed}
 use Rattle.walk.specs.Strings.{one_if}
-use Rattle.cumulative.specs.Tables.{sizes_unfit, entry, rows_of, last_of, numbers_of, holds, the_one_lem, found, lookup_of}
+use Rattle.cumulative.specs.Tables.{sizes_unfit, entry, rows_of, last_of, numbers_of, holds, the_one, found, lookup_of}
 use Rattle.cumulative.specs.Taken.{Rising, Cumulative, later, taken_iff}
 
 -- how many numbers after the first are below r
@@ -43,20 +45,20 @@ chosen true x y a t f = t refl
 chosen false x y a t f = f refl
 
 -- a test that only s passes
-the_one_lem : (m s : ℕ) (test : ℕ → Bool) → s < m → test s ≡ true → ((t : ℕ) → t < m → test t ≡ true → t ≡ s) → the_one_lem m test ≡ sample s
-unfolding the_one_lem
+the_one_lem : (m s : ℕ) (test : ℕ → Bool) → s < m → test s ≡ true → ((t : ℕ) → t < m → test t ≡ true → t ≡ s) → the_one m test ≡ sample s
+unfolding the_one
 the_one_lem zero s test h e u = absurd (omega arith)
 the_one_lem (suc m) s test h e u =
-    chosen (test m) (sample m) (the_one_lem m test) (sample s) (λ q. ap sample (u m (omega arith) q))
+    chosen (test m) (sample m) (the_one m test) (sample s) (λ q. ap sample (u m (omega arith) q))
     (λ q. ⊎_elim (λ (l : s < m). the_one_lem m s test l e (λ t k. u t (omega arith)))
     (λ (l : m ≤ s). let z : s ≡ m = omega arith in never (sym q ∙ (ap test (sym z) ∙ e))) (lt-or_ge s m))
 
 -- a test that none passes
-no_one : (m : ℕ) (test : ℕ → Bool) → ((t : ℕ) → t < m → test t ≡ true → ⊥) → the_one_lem m test ≡ missed
-unfolding the_one_lem
+no_one : (m : ℕ) (test : ℕ → Bool) → ((t : ℕ) → t < m → test t ≡ true → ⊥) → the_one m test ≡ missed
+unfolding the_one
 no_one zero test u = refl
 no_one (suc m) test u =
-    chosen (test m) (sample m) (the_one_lem m test) missed (λ q. absurd (u m (omega arith) q))
+    chosen (test m) (sample m) (the_one m test) missed (λ q. absurd (u m (omega arith) q))
     (λ q. no_one m test (λ t k. u t (omega arith)))
 
 -- ---- in a table whose numbers do not fall

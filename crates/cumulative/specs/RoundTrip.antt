@@ -5,7 +5,8 @@ use Rattle.std.proofs.Math.Path.{refl}
 use Rattle.std.proofs.Common.{ap, ◌∙◌, ext_get_or}
 use native.Mathlib.Omega.{arith}
 use Rattle.laws.specs.Sums.{sum_to, sum-eq, sum_more}
-use Rattle.laws.specs.Digits.{digit, number_lt, digit-number}
+use Rattle.laws.specs.Digits.{digit, number_lt}
+use Rattle.laws.proofs.Digits.{digit-number}
 use Rattle.laws.specs.Lists.{length-upto, get_d_upto}
 use Rattle.laws.specs.Lay.{lay, take-lay}
 use Rattle.laws.specs.Outcome.{gives, bound}

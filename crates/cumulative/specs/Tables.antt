@@ -10,11 +10,8 @@ use Rattle.files.specs.Matrix.{Matrix, tabled, p}
 use Rattle.files.specs.Files.{file_length, matrix_file, matrix_under}
 use Rattle.walk.specs.Walk.{Answer, sample, missed}
 use Rattle.cumulative.specs.declared.tables.Tried.{Tried}
-use Rattle.cumulative.specs.declared.tables.Tried.TheVariants as Tried
 use Rattle.cumulative.specs.declared.exporting.Exported.{Exported}
-use Rattle.cumulative.specs.declared.exporting.Exported.TheVariants as Exported
 use Rattle.cumulative.specs.declared.looking.Looked.{Looked}
-use Rattle.cumulative.specs.declared.looking.Looked.TheVariants as Looked
 
 -- ---- tables
 -- 2 to 129 numbers, and n from 1 to 63

@@ -15,7 +15,7 @@ use fields::{Refusal, bit, width};
 use files::{Checked, check};
 
 // A refusal, or how many numbers are laid down, and n.
-#[derive(Drop)]
+#[derive(Clone, Copy)]
 pub enum Exported {
     Refused(Refusal),
     Table { numbers: usize, columns: usize },

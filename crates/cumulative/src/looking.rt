@@ -11,7 +11,7 @@ use crate::tables::{Tried, power, sizes_unfit, try_numbers};
 use fields::Refusal;
 
 // A refusal, a sample, or a miss.
-#[derive(Drop)]
+#[derive(Clone, Copy)]
 pub enum Looked {
     Refused(Refusal),
     Sample(usize),

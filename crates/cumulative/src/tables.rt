@@ -12,7 +12,7 @@ const NUMBERS: usize = 129;
 pub(crate) const BITS: usize = 63;
 
 // A refusal, or that the numbers are sound.
-#[derive(Drop)]
+#[derive(Clone, Copy)]
 pub(crate) enum Tried {
     Refused(Refusal),
     Sound,
