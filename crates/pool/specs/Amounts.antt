@@ -19,7 +19,8 @@ module _ (xs : List Signer) where
 
   -- ---- claims
   pub claims-are : sum_of claim xs ≡ drawn_by_all xs + sum_of lack xs
-  claims-are = sum_plus (length xs) (λ j. claim (signer_at xs j)) (λ j. (signer_at xs j).drawn) (λ j. lack (signer_at xs j)) (λ j. omega arith)
+  claims-are =
+      sum_plus (length xs) (λ j. claim (signer_at xs j)) (λ j. (signer_at xs j).drawn) (λ j. lack (signer_at xs j)) (λ j. omega arith)
 
   -- what all lack is what the others lack, and what one lacks
   pub lack-split : (i : ℕ) → i < length xs → sum_of lack xs ≡ others_lack xs i + lack (signer_at xs i)

@@ -2,7 +2,8 @@
 -- Assumes nothing.
 use Prim.Native.Nat.{ℕ, zero, suc, ◌+◌, ◌≤◌, ◌<◌}
 use Rattle.std.specs.Prelude.{◌≡◌, Bool, List, [], ◌≢◌, ltb, length, set}
-use Rattle.std.proofs.Common.{sym, ◌∙◌, ap, subst, ⊎_elim, zero-add, eq-or-lt_of_le, lt_irrefl, add-one, arith, lt-ltb, le-ltb, length-set, ext_get_or, get_or-set_same, get_or-set_other}
+use Rattle.std.proofs.Common.{sym, ◌∙◌, ap, subst, ⊎_elim, zero-add, eq-or-lt_of_le, lt_irrefl, add-one, arith, lt-ltb, le-ltb, length-set}
+use Rattle.std.proofs.Common.{ext_get_or, get_or-set_same, get_or-set_other}
 use Rattle.std.proofs.Math.Nat.{add-zero}
 use Rattle.std.proofs.Math.ListN.{get_or-eq_default}
 use Rattle.laws.specs.Tests.{lt-or_ge}

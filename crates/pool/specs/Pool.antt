@@ -6,9 +6,7 @@ use Rattle.fields.specs.Limits.{outside}
 use Rattle.fields.specs.Refusal.{number_of}
 use Rattle.pool.specs.declared.signers.Signer.{Signer}
 use Rattle.pool.specs.declared.deciding.Opened.{Opened}
-use Rattle.pool.specs.declared.deciding.Opened.TheVariants as Opened
 use Rattle.pool.specs.declared.deciding.Drawn.{Drawn}
-use Rattle.pool.specs.declared.deciding.Drawn.TheVariants as Drawn
 
 -- a module hosts 1 to 16 signers; W, the number of words, is at most 65,536, and may be 0
 abbrev pub most_signers : ℕ
@@ -86,7 +84,7 @@ open_of W xs = do
   refuse 3 (ltb W (sum_of (λ s. s.reserve) xs))
   gives (cleared xs)
 
--- records that no opening and draws on W words can leave are 3; that these are the ones is `left-iff` (specs/Theorems.antt)
+-- records that no opening and draws on W words can leave are 3; that these are the ones is `left_iff` (specs/Theorems.antt)
 unfoldable pub records_of : ℕ → List Signer → Outcome (Unit {0})
 records_of W xs = do
   refuse 3 (sizes_unfit W (length xs))

@@ -1,6 +1,7 @@
 -- The pass over the signers, turn by turn, and the one that clears what they have drawn (specs/Scan.antt). Assumes nothing.
 use Rattle.std.specs.Prelude.{ℕ, ◌+◌, ◌-◌, ◌*◌, ◌^◌, ◌<◌, ◌≤◌, ◌≡◌, refl, Bool, true, false, ◌||◌, List, eqb, ltb, length, set}
-use Rattle.std.proofs.Common.{sym, ◌∙◌, ap, subst, ⊎_elim, eq-or-lt_of_le, lt_irrefl, not-suc-le-zero, arith, lt-ltb, le-ltb, eqb-true, ltb-true, ltb-false, length-set, get_or-set_same, get_or-set_other, ext_get_or}
+use Rattle.std.proofs.Common.{sym, ◌∙◌, ap, subst, ⊎_elim, eq-or-lt_of_le, lt_irrefl, not-suc-le-zero, arith, lt-ltb, le-ltb, eqb-true}
+use Rattle.std.proofs.Common.{ltb-true, ltb-false, length-set, get_or-set_same, get_or-set_other, ext_get_or}
 use Rattle.std.proofs.lemmas.Bool.{eqb-false}
 use Rattle.laws.specs.Sums.{any, sum_to, any_next, sum_more}
 use Rattle.pool.specs.Pool.{most_signers, no_signer, signer_at, lack, lack_unless, claim, reserve_above, drawn_above, clear, cleared}
@@ -73,7 +74,8 @@ none_yet xs asks = rw (le-ltb asks 0 (omega arith))
 pub going_start : (xs : List Signer) (asks n : ℕ) → Going xs asks n 0 no_sums
 going_start xs asks n = (omega arith, none_yet xs asks, (omega arith, omega arith, omega arith, omega arith))
 
-pub going_turn : (xs : List Signer) (asks n i : ℕ) (a r : Sums) → i < n → (signer_at xs i).reserve < 2 ^ 32 → (signer_at xs i).drawn < 2 ^ 32
+pub going_turn : (xs : List Signer) (asks n i : ℕ) (a r : Sums) → i < n → (signer_at xs i).reserve < 2 ^ 32 →
+    (signer_at xs i).drawn < 2 ^ 32
     → Going xs asks n i a → r ≡ added a (signer_at xs i) i asks → Going xs asks n (i + 1) r
 going_turn xs asks n i a r l gr gd (h, e, s) p = (
   omega arith,

@@ -106,7 +106,8 @@ module _ (W : ℕ) (xs : List Signer) where
       Answered (open_of W xs) fit r
   open_ends asks fit r e = ends (open_of W xs) fit r (rw e (opens-is asks))
 
-  pub refill-ends : (asks : ℕ) (fit : Bool) (r : Opened) → fit ≡ stands_by W (length xs) (sums_of xs asks met) → opened_of r ≡ opened_by fit →
+  pub refill-ends : (asks : ℕ) (fit : Bool) (r : Opened) → fit ≡ stands_by W (length xs) (sums_of xs asks met) →
+      opened_of r ≡ opened_by fit →
       Answered (refill_of W xs) fit r
   refill-ends asks fit r e = ends (refill_of W xs) fit r (rw e (refill-is asks))
 

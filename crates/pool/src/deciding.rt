@@ -12,21 +12,21 @@ use fields::{Refusal, outside};
 const WORDS: usize = 65536;
 
 // A refusal, or that the pool is open, with nothing drawn.
-#[derive(Drop)]
+#[derive(Clone, Copy)]
 pub enum Opened {
     Refused(Refusal),
     Open,
 }
 
 // A refusal, or where the words that are granted start.
-#[derive(Drop)]
+#[derive(Clone, Copy)]
 pub enum Drawn {
     Refused(Refusal),
     Start(usize),
 }
 
 // A draw's answer, whether it is granted, and what its signer has drawn then.
-#[derive(Drop)]
+#[derive(Clone, Copy)]
 pub(crate) struct Decided {
     pub(crate) answer: Drawn,
     pub(crate) granted: bool,

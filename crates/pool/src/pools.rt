@@ -8,9 +8,8 @@ ghost use Rattle.pool.specs.Deciding.{cleared_if, opened_by};
 use crate::deciding::{Drawn, Opened, decide, opened_if, opens, stands};
 use crate::signers::{Signer, clear, scan};
 
-// Clears what the signers have drawn, where they fit, and answers whether they do. It is open to the crate, since the walk that `open` and
-// `refill` share names it.
-pub(crate) fn renew(signers: &mut [Signer], fit: bool) -> Opened
+// Clears what the signers have drawn, where they fit, and answers whether they do.
+fn renew(signers: &mut [Signer], fit: bool) -> Opened
     ensures { (opened_of result ≡ opened_by fit) × (signers.new ≡ cleared_if fit signers.old) }
 {
     if fit {

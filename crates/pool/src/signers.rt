@@ -12,7 +12,7 @@ pub(crate) const SIGNERS: usize = 16;
 
 // A signer, as C has it too: how many words are kept for it, how many it may draw, and how many it has drawn.
 #[repr(C)]
-#[derive(Drop)]
+#[derive(Clone, Copy)]
 pub struct Signer {
     pub reserve: u32,
     pub cap: u32,
@@ -22,7 +22,7 @@ pub struct Signer {
 // What a pass over signers comes to: the record of the one that asks, all 0 where it was not met; all reserves, all that was drawn, and of
 // each the larger of the two, added up; what all but the one that asks lack of their reserves; whether some reserve is above its cap; and
 // whether somebody has drawn more than its cap.
-#[derive(Drop)]
+#[derive(Clone, Copy)]
 pub(crate) struct Sums {
     pub(crate) own: Signer,
     pub(crate) reserved: usize,
@@ -98,7 +98,11 @@ pub(crate) fn scan(signers: &[Signer], asks: usize) -> Sums
     let n = lesser(signers.len(), SIGNERS);
     let mut i = 0;
     while i < n {
-        a = step(a, signers[i], i, asks);
+        let s = signers[i];
+        // no number is above 32 bits, so the sums stay `Small`
+        prove!(s.reserve <= u32::MAX);
+        prove!(s.drawn <= u32::MAX);
+        a = step(a, s, i, asks);
         i = i + 1;
     }
     a

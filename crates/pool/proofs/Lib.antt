@@ -1,2 +1,0 @@
--- What the walks of the operations share.
-pub mod Lending
