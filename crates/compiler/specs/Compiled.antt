@@ -17,7 +17,8 @@ use Rattle.programs.specs.Inverse.{header-reads}
 use Rattle.programs.specs.declared.description.Program.{Program}
 use Rattle.checker.specs.Checks.{Code, check_of}
 use Rattle.checker.specs.Checking.{check_says}
-use Rattle.checker.specs.Accepting.{Sound, accepted}
+use Rattle.checker.specs.Accepting.{Sound}
+use Rattle.checker.proofs.Accepting.{accepted}
 use Rattle.compiler.specs.Translation.{begin, column, translation, program, compiled, compile_under, compile_of}
 use Rattle.compiler.specs.Room.{accepted-roomy}
 use Rattle.compiler.specs.Ranges.{in_range, all_set}

@@ -18,7 +18,8 @@ use Rattle.walk.specs.declared.Drawn.{Drawn}
 use Rattle.walk.specs.declared.Drawn.TheVariants.{Hit as hit, Miss as miss}
 use Rattle.machine.specs.Meaning.{Gates, bit_gates, State, exec, exec_append}
 use Rattle.machine.specs.Runs.{Ended, start_on}
-use Rattle.machine.specs.Resuming.{whole_run, start-whole}
+use Rattle.machine.specs.Resuming.{whole_run}
+use Rattle.machine.proofs.Resuming.{start-whole}
 use Rattle.machine.specs.Calls.{cleared, sized-cleared}
 use Rattle.compiler.specs.Translation.{reg_h, reg_v, reg_x, clear, begin, tell, end, live_before, column}
 use Rattle.compiler.specs.Translation.{translation, program, compiled}
@@ -93,7 +94,8 @@ module _ (inputs : List ℕ) (k m : ℕ) where
   -- ---- the columns, one after another: the state that the outputs are taken from
   module _ (n : ℕ) (bit : ℕ → ℕ → ℕ) (roomy : Roomy m n bit) (ok : (c : ℕ) → c < n → get_or inputs c 0 ≤ 1) where
     columns_run : (s : State ℕ) → 3 + k + 3 * m ≤ length s.registers →
-        Stands k m (live_before bit m n) (place_after bit m (λ i. get_or inputs i 0) n) (run inputs (begin k ++ blocks n (column k m bit)) s)
+        Stands k m (live_before bit m n) (place_after bit m (λ i. get_or inputs i 0) n)
+        (run inputs (begin k ++ blocks n (column k m bit)) s)
     unfolding place_after live_before
     columns_run s long =
         let at : ℕ → Place = place_after bit m (λ i. get_or inputs i 0) in

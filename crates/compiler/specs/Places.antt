@@ -88,7 +88,8 @@ meeting_hit v (found u) = refl
 meeting_hit v (left zero) = refl
 meeting_hit v (left (suc d)) = omega arith
 
-pub meeting_row : (v t : ℕ) (o : Place) → max (sample_bit t (answer_at o)) (v / 2 ^ t % 2 * is_at 0 o) ≡ sample_bit t (answer_at (meeting v o))
+pub meeting_row : (v t : ℕ) (o : Place) → max (sample_bit t (answer_at o)) (v / 2 ^ t % 2 * is_at 0 o) ≡
+    sample_bit t (answer_at (meeting v o))
 unfolding answer_at is_at meeting same
 meeting_row v t (found u) = omega arith
 meeting_row v t (left zero) = omega arith

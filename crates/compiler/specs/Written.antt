@@ -11,7 +11,7 @@ use Rattle.files.specs.Matrix.{ones_in}
 use Rattle.programs.specs.Instructions.{uses}
 use Rattle.programs.specs.declared.description.Instruction.{Instruction}
 use Rattle.laws.specs.Every.{OneOf}
-use Rattle.checker.specs.Accepting.{Ready, none, ready_more, ready-less, ready-append, ready-blocks, ready_stay}
+use Rattle.checker.specs.Accepting.{Ready, Nowhere, ready_more, ready-less, ready-append, ready-blocks, ready_stay}
 use Rattle.compiler.specs.Translation.{reg_b, reg_n, reg_h, reg_x, reg_y, clear, begin, apart, split, marks}
 use Rattle.compiler.specs.Translation.{carry, keep, tell, end, live_before, column, translation_of}
 use Rattle.compiler.specs.Room.{Roomy, live-next}
@@ -42,7 +42,7 @@ module _ (k m : ℕ) where
   begun r (inl x) = inl (inl (omega arith))
   begun r (inr x) = inr (inl (inl (omega arith)))
 
-  begin-ready : Ready none (begin k) (Held 1)
+  begin-ready : Ready Nowhere (begin k) (Held 1)
   begin-ready =
       let zeros : List Instruction = blocks k clear in
       let up_to : ℕ → ℕ → Type 0 = λ t. Spans 2 (3 + t) (reg_x k 0) (reg_x k 1) in (
@@ -121,13 +121,13 @@ module _ (k m : ℕ) where
         (keep-ready h (ones_in bit m c) g next)
 
     -- whatever is live at the end, H and each V are written
-    pub written-first : Ready none (translation_of k m n bit) none
+    pub written-first : Ready Nowhere (translation_of k m n bit) Nowhere
     unfolding live_before
     written-first =
         let live : ℕ → ℕ = live_before bit m in
-        ready-less (translation_of k m n bit) none (Held 0) none (λ r x. absurd x)
-        (ready-append (begin k ++ blocks n (column k m bit)) (end k) none (Held (live n)) (Held 0)
-        (ready-append (begin k) (blocks n (column k m bit)) none (Held 1) (Held (live n)) begin-ready
+        ready-less (translation_of k m n bit) Nowhere (Held 0) Nowhere (λ r x. absurd x)
+        (ready-append (begin k ++ blocks n (column k m bit)) (end k) Nowhere (Held (live n)) (Held 0)
+        (ready-append (begin k) (blocks n (column k m bit)) Nowhere (Held 1) (Held (live n)) begin-ready
         (ready-blocks (λ c. Held (live c)) (column k m bit) n column-ready))
         (ready_more (end k) (Held 0) (Held (live n)) (Held 0) (λ r x. omega arith) (ready_stay (Held 0) (end k)
         ((omega arith, tt), each-blocks (λ i. Each (Held 0) (uses i).reads) tell k (λ t l. ((omega arith, tt), tt))))))

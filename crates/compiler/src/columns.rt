@@ -49,7 +49,7 @@ fn marks(
 }
 
 // The byte behind a column, and the live count after it.
-#[derive(Drop)]
+#[derive(Clone, Copy)]
 struct Done {
     at: usize,
     live: usize,

@@ -24,7 +24,7 @@ fn live_after(h: usize, w: usize, m: usize) -> usize
 }
 
 // The set rows of a column, and the instructions that mark them.
-#[derive(Drop)]
+#[derive(Clone, Copy)]
 struct Marks {
     rows: usize,
     instructions: usize,
@@ -46,7 +46,7 @@ fn count_marks(bytes: &[u8], stride: usize, m: usize, c: usize) -> Marks
 }
 
 // What is counted of a column: its marks, and the live count after it.
-#[derive(Drop)]
+#[derive(Clone, Copy)]
 pub(crate) struct ColumnCounts {
     pub rows: usize,
     pub instructions: usize,
@@ -100,7 +100,7 @@ fn program_length(k: usize, n: usize, count: usize) -> usize
 }
 
 // What is measured of a program: k, the instructions of its columns, and its bytes.
-#[derive(Drop)]
+#[derive(Clone, Copy)]
 pub(crate) struct Measures {
     pub bits: usize,
     pub count: usize,
