@@ -11,7 +11,6 @@ use Rattle.machine.specs.Runs.{start_under}
 use Rattle.lanes.specs.Slicing.{lanes, slice_under}
 use Rattle.lanes.specs.Samples.{samples_of, signed_samples_of}
 use Rattle.drawing.specs.declared.Batch.{Batch}
-use Rattle.drawing.specs.declared.Batch.TheVariants as Batch
 
 -- drawing into a buffer of `room` places, with a way of reading the outputs of so many rows, where at most `most` columns, `wide` inputs
 -- and `long` instructions are allowed: the program's own refusals, 13 and 5 for the strings, 13 for the samples

@@ -1,4 +1,4 @@
--- A batch on words of the engine's own comes to what `batchOf` says, and a drawing is a batch whose outputs are read. Assumes nothing.
+-- A batch on words of the engine's own comes to what `batch_of` says, and a drawing is a batch whose outputs are read. Assumes nothing.
 use Rattle.std.specs.Prelude.{ℕ, ◌≤◌, ◌<◌, ◌≡◌, refl, List, ltb, take, get_or, replicate}
 use Rattle.std.proofs.Common.{sym, ◌∙◌, subst, arith}
 use Rattle.std.proofs.Math.Path.{ap}
@@ -20,14 +20,14 @@ use Rattle.machine.specs.Meaning.{Gates, word_gates, exec_long}
 use Rattle.checker.specs.Checks.{Code, check_of}
 use Rattle.machine.specs.Runs.{Ended, run_of, start_under, start_on, start_of}
 use Rattle.checker.specs.Checking.{check_refused, check_says}
-use Rattle.machine.specs.Unseen.{start-inputs, start_forgets_enough}
-use Rattle.machine.specs.Calls.{Room, Enough, cleared, start_is, admitted-gives}
+use Rattle.machine.proofs.Unseen.{start-inputs, start_forgets_enough}
+use Rattle.machine.specs.Calls.{Room, Enough, cleared, admitted-gives}
+use Rattle.machine.proofs.Calls.{start_is}
 use Rattle.machine.specs.declared.runs.Run.{Run}
 use Rattle.lanes.specs.Slicing.{lanes, slice_under, slice_of, word_of}
 use Rattle.lanes.specs.Lanes.{cut}
 use Rattle.drawing.specs.Drawing.{drawn_under, drawn_with, Left, left, batch_of, after_own, batched, batched_rows, Few}
 use Rattle.drawing.specs.declared.Batch.{Batch}
-use Rattle.drawing.specs.declared.Batch.TheVariants as Batch
 
 -- what a run leaves, of so many rows
 abbrev left_by : ℕ → Ended ℕ → Left

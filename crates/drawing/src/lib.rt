@@ -1,15 +1,17 @@
 // Drawing 64 samples in one call: check, slice, start and read (01, "Runs, words, samples"). A program and 64 strings go to 64 samples on
 // words of the call's own, so that no batch can inherit another's.
 //
-// Both operations take any content and any length, and answer as the reading of samples does. Their contracts cite `drawOf` and
-// `drawSignedOf` of specs/Drawing.antt; the samples end as they began, with what the outcome lays at their front.
+// Both operations take any content and any length, and answer as the reading of samples does. Their contracts cite `draw_of` and
+// `draw_signed_of` of specs/Drawing.antt; the samples end as they began, with what the outcome lays at their front.
+#![tactic(auto)]
+
 ghost use Rattle.std.specs.Prelude.{◌≡◌, ◌≤◌, length};
 ghost use Rattle.laws.specs.Lay.{lay};
 ghost use Rattle.laws.specs.Outcome.{laid, mapped, refused};
 ghost use Rattle.fields.specs.Refusal.{number_of};
 ghost use Rattle.programs.specs.Limits.{most_outputs, most_registers};
 ghost use Rattle.lanes.specs.Samples.{sampled};
-ghost use Rattle.drawing.specs.Drawing.{after_own, batched, batched_rows, batch_of, draw_of, draw_signed_of, few};
+ghost use Rattle.drawing.specs.Drawing.{after_own, batched, batched_rows, batch_of, draw_of, draw_signed_of, Few};
 
 use checker::check;
 use fields::Refusal;
@@ -18,7 +20,7 @@ use machine::{Ran, State, start};
 use programs::{Checked, Program, read_header};
 
 // A refusal, or the rows of a program that ran and how many outputs it has left.
-#[derive(Drop)]
+#[derive(Clone, Copy)]
 enum Batch {
     Refused(Refusal),
     Outputs(usize, usize),
@@ -43,11 +45,11 @@ fn run_batch(
     outputs: &mut [u64],
 ) -> Batch
     requires { (most_registers ≤ length registers.old) × (most_outputs ≤ length outputs.old) }
-    ensures fact { let o = batch_of program.now strings.now room in
+    ensures outcome { let o = batch_of program.now strings.now room in
         (batched result ≡ mapped (λ l. length l.outputs) o) ×
         (batched_rows result ≡ mapped (λ l. l.rows) o) ×
         (outputs.new ≡ lay (laid (λ l. l.outputs) o) outputs.old) }
-    ensures few { few result }
+    ensures few { Few result }
 {
     let p = match read_header(program) {
         Checked::Refused(why) => return Batch::Refused(why),
