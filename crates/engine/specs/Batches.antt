@@ -15,7 +15,7 @@ use Rattle.files.specs.RoundTrip.{read_accepted}
 use Rattle.machine.specs.Runs.{start_of}
 use Rattle.walk.specs.Walk.{Answer, drawn, answer_of, walk_of}
 use Rattle.lanes.specs.Slicing.{lanes, string_at, string_bits, word_of}
-use Rattle.lanes.specs.Samples.{sample_of, code, signed_code, each_lane_lem, samples_of, signed_samples_of, lanes_give}
+use Rattle.lanes.specs.Samples.{sample_of, code, signed_code, each_lane, samples_of, signed_samples_of, lanes_give}
 use Rattle.lanes.specs.Lanes.{lane_of_word, word_lt}
 use Rattle.spent.specs.Theorems.{string-walked}
 use Rattle.compiler.specs.Translation.{program, compiled}
@@ -88,7 +88,7 @@ module _ (file : List ℕ) (M : Matrix) (e : matrix_of file ≡ gives M) (string
     -- reading one number from each lane, whatever is made of what it gives
     each_lane_lem : {A : Type 0} (f : ℕ → Answer → A) →
         (start_of (compiled M) (sliced_words M.columns strings) registers outputs budget >>=
-        (λ x. each_lane_lem M.rows x.state.outputs room (λ j. f j (sample_of M.rows x.state.outputs j)))) ≡
+        (λ x. each_lane M.rows x.state.outputs room (λ j. f j (sample_of M.rows x.state.outputs j)))) ≡
         gives (upto lanes (λ j. f j (drawn_at M strings j)))
     each_lane_lem f =
         rw ending.is

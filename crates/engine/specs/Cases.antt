@@ -18,8 +18,8 @@ use Rattle.programs.specs.declared.description.Instruction.{Instruction}
 use Rattle.programs.specs.declared.description.Instruction.TheVariants.{Ones, Zero, Input, Not, And, Or, Output}
 use Rattle.programs.specs.Records.{record_bytes}
 use Rattle.programs.specs.Instructions.{instruction_bytes, decode_of, sized_of}
-use Rattle.programs.specs.Header.{code_bytes, program_file, header_under as programHeaderUnder, header_bytes as programHeader}
-use Rattle.programs.specs.Header.{numbers_of as programNumbers, limits_under as programLimitsUnder}
+use Rattle.programs.specs.Header.{code_bytes, program_file, header_under as program_header_under, header_bytes as program_header}
+use Rattle.programs.specs.Header.{numbers_of as program_numbers, limits_under as program_limits_under}
 use Rattle.machine.specs.Meaning.{exec}
 use Rattle.checker.specs.Checks.{check_under, code_of, instruction_of, also}
 use Rattle.machine.specs.Runs.{start_under, start_of, run_of}
@@ -173,9 +173,9 @@ all_come (c ∷ cs) e =
 -- ---- the table holds
 pub cases_hold : AllCome cases
 unfolding three_rows too_much one_row two_rows listed listing cases comes all_agree agrees same told_of numbers_of sum_to any number digit
-    blocks upto field_of packed_bit padded packed spare bit p total ones_in header_bytes matrix_file sizes_under header_under unpacked body_of
-    matrix_under read_under write_under counted sum share built build_under strings_under at scan then walk drawn used walk_under record_bytes
-    instruction_bytes decode_of sized_of code_bytes program_file programHeaderUnder programHeader programNumbers programLimitsUnder exec
-    check_under code_of instruction_of also start_under run_of bits_to_write row_bits if_set marks live_before column translation program compiled
-    compile_under
+    blocks upto field_of packed_bit padded packed spare bit p total ones_in header_bytes matrix_file sizes_under header_under unpacked
+    body_of matrix_under read_under write_under counted sum share built build_under strings_under at scan then walk drawn used walk_under
+    record_bytes instruction_bytes decode_of sized_of code_bytes program_file program_header_under program_header program_numbers
+    program_limits_under exec check_under code_of instruction_of also start_under run_of bits_to_write row_bits if_set marks live_before
+    column translation program compiled compile_under
 cases_hold = all_come cases refl

@@ -12,7 +12,8 @@ use Rattle.files.specs.RoundTrip.{read_accepted}
 use Rattle.machine.specs.Meaning.{word_gates}
 use Rattle.checker.specs.Checks.{check_of}
 use Rattle.machine.specs.Runs.{Ended, start_of}
-use Rattle.machine.specs.Resuming.{started, onward, start-onward, Chain, start_chain, together, all_budgets}
+use Rattle.machine.specs.Resuming.{started, onward, Chain, together, all_budgets}
+use Rattle.machine.proofs.Resuming.{start-onward, start_chain}
 use Rattle.walk.specs.Walk.{drawn, answer_of}
 use Rattle.lanes.specs.Slicing.{lanes}
 use Rattle.lanes.specs.Samples.{sample_of}
@@ -65,7 +66,8 @@ module _ (file : List ℕ) (M : Matrix) (e : matrix_of file ≡ gives M) where
         (ap gives (lane-says M a _ (bits-many j) (chosen budget j) f))
 
     -- and where registers and outputs that a stop left are put back at the front of other buffers: what the last call leaves
-    pub demand_2_moved : (b : ℕ) (bs : List ℕ) (first last : Ended ℕ) (j : ℕ) → b < 2 ^ 32 → (program M).count ≤ together b (all_budgets bs) →
+    pub demand_2_moved : (b : ℕ) (bs : List ℕ) (first last : Ended ℕ) (j : ℕ) → b < 2 ^ 32 →
+        (program M).count ≤ together b (all_budgets bs) →
         j < lanes → start_of (compiled M) inputs registers outputs b ≡ gives first → Chain word_gates (compiled M) inputs first bs last →
         sample_of M.rows last.state.outputs j ≡ answer_of (drawn M (lane_bits M.columns inputs j))
     demand_2_moved b bs first last j h enough jl q c =

@@ -8,14 +8,16 @@ use Rattle.fields.specs.Foreign.{Foreign, foreign_cut}
 use Rattle.files.specs.Matrix.{Matrix, sizes}
 use Rattle.files.specs.Files.{matrix_of, read_under, read_of}
 use Rattle.files.specs.Checks.{header-says, matrix_read}
-use Rattle.files.specs.Foreign.{Short as ShortMatrix, matrix_short_first, matrix_changed, matrix-few, matrix_foreign, matrix_cut}
+use Rattle.files.specs.Foreign.{Short as ShortMatrix, matrix_short_first}
+use Rattle.files.proofs.Foreign.{matrix_changed, matrix-few, matrix_foreign, matrix_cut}
 use Rattle.programs.specs.Header.{header_kind}
 use Rattle.programs.specs.Inverse.{header-reads}
 use Rattle.programs.specs.Foreign.{Short as ShortProgram}
 use Rattle.programs.specs.declared.description.Program.{Program}
 use Rattle.checker.specs.Checks.{Code, check_of}
 use Rattle.checker.specs.Checking.{check_says}
-use Rattle.checker.specs.Foreign.{check_short_first, check_changed, check_few, check_foreign, check_cut}
+use Rattle.checker.specs.Foreign.{check_short_first, check_changed, check_few, check_foreign}
+use Rattle.checker.proofs.Foreign.{check_cut}
 use Rattle.machine.specs.Runs.{start_of, start_under, resume_of, resume_under}
 use Rattle.walk.specs.Walk.{walk_under, walk_of}
 use Rattle.lanes.specs.Slicing.{lanes, slice_of}
@@ -74,7 +76,7 @@ module _ {A : Type 0} (strings : List ℕ) (room : ℕ) (read : ℕ → List ℕ
       Through check_of (λ file. start_of file words (replicate p.registers 0) (replicate p.outputs 0) p.count)
   on_words p words = start_through words (replicate p.registers 0) (replicate p.outputs 0) p.count
 
-  -- the rest of `drawnWith`, with its start of the file as one of the program that was checked
+  -- the rest of `drawn_with`, with its start of the file as one of the program that was checked
   after_check : Code → Outcome A
   after_check c = do
     words ← slice_of c.program.inputs strings c.program.inputs

@@ -12,7 +12,8 @@ use Rattle.laws.specs.Outcome.{gives, mapped}
 use Rattle.files.specs.Matrix.{Matrix, Accepted}
 use Rattle.machine.specs.Meaning.{word_gates, bit_gates, exec, exec_long}
 use Rattle.machine.specs.Runs.{Ended, start_of, start_on}
-use Rattle.machine.specs.LaneLaw.{lane, lane-start, map_ended}
+use Rattle.machine.specs.LaneLaw.{lane, map_ended}
+use Rattle.machine.proofs.LaneLaw.{lane-start}
 use Rattle.walk.specs.Walk.{sample, drawn, answer_of, is_miss}
 use Rattle.walk.specs.Theorems.{hit-inside}
 use Rattle.walk.specs.declared.Drawn.{Drawn}

@@ -65,7 +65,8 @@ module _ (T : List ℕ) (n : ℕ) (ok : Cumulative T n) where
   -- sample v comes up as often as the difference of neighbours says
   pub lookup_count : (v : ℕ) → v < rows_of T → count (λ r. says v (lookup_of T n r)) (numbers_to (2 ^ n)) ≡ difference T v
   lookup_count v h =
-      count-each (λ r. (1 ≤ r) × (r ≤ 2 ^ n)) (λ r. says v (lookup_of T n r)) (λ r. holds T r v) (numbers_to (2 ^ n)) (numbers-within (2 ^ n))
+      count-each (λ r. (1 ≤ r) × (r ≤ 2 ^ n)) (λ r. says v (lookup_of T n r)) (λ r. holds T r v) (numbers_to (2 ^ n))
+      (numbers-within (2 ^ n))
       (λ r w. says_holds T n ok r w.0 w.1 v h) ∙
       holds-count T n ok v h
 

@@ -23,12 +23,13 @@ use Rattle.cumulative.specs.Tables.{export_under, export_of}
 use Rattle.lanes.specs.Slicing.{lanes, slice_under, slice_of}
 use Rattle.lanes.specs.Samples.{samples_of, signed_samples_of}
 use Rattle.programs.specs.Limits.{most_inputs, most_instructions, within_under, within}
-use Rattle.programs.specs.Header.{numbers_of, header_under as programHeaderUnder, header_of as programHeaderOf}
-use Rattle.programs.specs.Header.{write_header_under as writeProgramHeaderUnder, write_header_of as writeProgramHeaderOf}
+use Rattle.programs.specs.Header.{numbers_of, header_under as program_header_under, header_of as program_header_of}
+use Rattle.programs.specs.Header.{write_header_under as write_program_header_under, write_header_of as write_program_header_of}
 use Rattle.programs.specs.Reading.{WithinUnder, under_means}
 use Rattle.programs.specs.Inverse.{header-reads_under}
 use Rattle.programs.specs.Raised.{Larger, LargerFile, within_same}
-use Rattle.programs.specs.Raised.{header_raised as program-header-raised, write_header_raised as write-program-header-raised}
+use Rattle.programs.proofs.Raised.{header_raised as program-header-raised}
+use Rattle.programs.specs.Raised.{write_header_raised as write-program-header-raised}
 use Rattle.programs.specs.declared.description.Program.{Program}
 use Rattle.checker.specs.Checks.{Code, check_under, check_of}
 use Rattle.checker.specs.Checking.{check_says_under}
@@ -79,11 +80,11 @@ pub record ColumnsAsBefore (n : ℕ) : Type 0 where
 -- the numbers of a program
 pub record NumbersAsBefore (p : Program) : Type 0 where
   pub tries_limits : within p ≡ within_under inputs_before instructions_before p
-  pub writes_headers : (room : ℕ) → writeProgramHeaderOf p room ≡ writeProgramHeaderUnder inputs_before instructions_before p room
+  pub writes_headers : (room : ℕ) → write_program_header_of p room ≡ write_program_header_under inputs_before instructions_before p room
 
 -- a program file, in everything that takes one
 pub record ProgramAsBefore (file : List ℕ) : Type 0 where
-  pub reads_headers : programHeaderOf file ≡ programHeaderUnder inputs_before instructions_before file
+  pub reads_headers : program_header_of file ≡ program_header_under inputs_before instructions_before file
   pub checks : check_of file ≡ check_under inputs_before instructions_before file
   pub starts : (inputs registers outputs : List ℕ) (budget : ℕ) →
       start_of file inputs registers outputs budget ≡
@@ -96,7 +97,8 @@ pub record ProgramAsBefore (file : List ℕ) : Type 0 where
       drawn_under columns_before inputs_before instructions_before file strings room (λ rows outputs. samples_of rows outputs room)
   pub draws_signed : (strings : List ℕ) (sign room : ℕ) →
       draw_signed_of file strings sign room ≡
-      drawn_under columns_before inputs_before instructions_before file strings room (λ rows outputs. signed_samples_of rows outputs sign room)
+      drawn_under columns_before inputs_before instructions_before file strings room
+      (λ rows outputs. signed_samples_of rows outputs sign room)
 
 -- ---- raising the limit of columns, where these are told
 module _ (most more n : ℕ) (h : most ≤ more) where
@@ -139,7 +141,8 @@ module _ (most more : ℕ) (h : most ≤ more) (file : List ℕ) where
       (raised_behind 1 (ltb (length file) (field_of file 0)) sizes_raised)))) plainly
     where
       plainly : ((ltb (length file) 4 ≡ false) × ((not (eqb (field_of file 2) 32) ≡ false) × ((ltb (length file) 8 ≡ false) ×
-          ((ltb (length file) (field_of file 0) ≡ false) × Wider most more (field_of file 4) (field_of file 6))))) ↔ WiderFile most more file
+          ((ltb (length file) (field_of file 0) ≡ false) × Wider most more (field_of file 4) (field_of file 6))))) ↔
+          WiderFile most more file
       plainly = (
         (λ t. (
           ltb-false (length file) 8 t.1.1.0,
@@ -183,7 +186,8 @@ module _ (most more : ℕ) (h : most ≤ more) (file : List ℕ) where
   unfolding walk_under
   walk_raised string = with_strings 1 string _
 
-  pub spent_raised : (strings : List ℕ) → Raised (WiderFile most more file) 3 (spent_under most file strings) (spent_under more file strings)
+  pub spent_raised : (strings : List ℕ) → Raised (WiderFile most more file) 3 (spent_under most file strings)
+      (spent_under more file strings)
   unfolding spent_under
   spent_raised strings = with_strings lanes strings _
 

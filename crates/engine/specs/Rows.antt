@@ -23,7 +23,8 @@ use Rattle.checker.specs.Checks.{Code, check_under, check_of}
 use Rattle.checker.specs.Checking.{check_says}
 use Rattle.machine.specs.Meaning.{word_gates}
 use Rattle.machine.specs.Runs.{start_of}
-use Rattle.machine.specs.Resuming.{started, onward, start-onward, together, all_budgets}
+use Rattle.machine.specs.Resuming.{started, onward, together, all_budgets}
+use Rattle.machine.proofs.Resuming.{start-onward}
 use Rattle.walk.specs.Walk.{Answer}
 use Rattle.lanes.specs.Slicing.{lanes, slice_of, word_of}
 use Rattle.lanes.specs.Samples.{lane_says, sample_of, code, signed_code, each_lane, samples_of, signed_samples_of}
@@ -113,7 +114,8 @@ module _ (file strings : List ℕ) (room : ℕ) (j : ℕ) (h : j < lanes) where
 
 -- ---- compiled programs
 module _ (file : List ℕ) (M : Matrix) (e : matrix_of file ≡ gives M) (inputs registers outputs : List ℕ)
-    (small : (i : ℕ) → get_or inputs i 0 < 2 ^ lanes) (i : (program M).inputs ≤ length inputs) (r : (program M).registers ≤ length registers)
+    (small : (i : ℕ) → get_or inputs i 0 < 2 ^ lanes) (i : (program M).inputs ≤ length inputs)
+    (r : (program M).registers ≤ length registers)
     (o : (program M).outputs ≤ length outputs) where
   -- lane by lane, after a start with budget enough: with their own rows they give what they gave without
   pub lane_as_before : (budget j : ℕ) → (program M).count ≤ budget → j < lanes →
@@ -199,7 +201,8 @@ module _ (file : List ℕ) (M : Matrix) (e : matrix_of file ≡ gives M) (string
       (rw is (words_small M.columns strings)) (omega (arith, inputs_are M, long)) (own (program M).registers) (own (program M).outputs)
       (program M).count (omega arith) room f)))
 
-  pub draw_as_before : draw_of (compiled M) strings room ≡ drawn_with (compiled M) strings room (λ rows outputs. samples_before outputs room)
+  pub draw_as_before : draw_of (compiled M) strings room ≡
+      drawn_with (compiled M) strings room (λ rows outputs. samples_before outputs room)
   draw_as_before = drawn_as_before (λ j g. code g)
 
   pub draw-signed_as_before : (sign : ℕ) →

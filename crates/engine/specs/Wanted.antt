@@ -79,7 +79,8 @@ module _ (file : List ℕ) (M : Matrix) (e : matrix_of file ≡ gives M) (space 
         ap (says row) (given_is s b choice f) ∙ (says-hits row (drawn M s) ∙ least.least s b l)
 
     -- the row is given after any stops too that are resumed as left
-    pub wanted_stops : (inputs registers outputs : List ℕ) → ((i : ℕ) → get_or inputs i 0 < 2 ^ lanes) → (program M).inputs ≤ length inputs →
+    pub wanted_stops : (inputs registers outputs : List ℕ) → ((i : ℕ) → get_or inputs i 0 < 2 ^ lanes) →
+        (program M).inputs ≤ length inputs →
         (program M).registers ≤ length registers → (program M).outputs ≤ length outputs → (b : ℕ) (bs : List ℕ) (j : ℕ) → b < 2 ^ 32 →
         (program M).count ≤ together b (all_budgets bs) → j < lanes → lane_bits M.columns inputs j ≡ string →
         mapped (λ x. sample_of M.rows (take (program M).outputs x.outputs) j)

@@ -1,5 +1,6 @@
 -- 02, order 2: how often a result comes up over all four strings and signs, and how often a lane misses. Assumes nothing.
-use Rattle.std.specs.Prelude.{ℕ, ◌*◌, ◌-◌, ◌≤◌, ◌<◌, ◌≡◌, refl, Bool, true, false, cond, not, ◌&&◌, ◌||◌, List, map, ◌⊎◌, ℤ, pos, nat_abs, length}
+use Rattle.std.specs.Prelude.{ℕ, ◌*◌, ◌-◌, ◌≤◌, ◌<◌, ◌≡◌, refl, Bool, true, false, cond, not, ◌&&◌, ◌||◌, List, map, ◌⊎◌, ℤ, pos, nat_abs}
+use Rattle.std.specs.Prelude.{length}
 use Rattle.std.proofs.Common.{sym, ◌∙◌, subst, inl, inr, ⊎_elim, arith}
 use Rattle.std.proofs.Math.Path.{ap}
 use Rattle.std.proofs.Math.Bool.{or-true}
@@ -8,7 +9,8 @@ use Rattle.laws.specs.Outcome.{Outcome, gives, mapped, ◌>>=◌}
 use Rattle.walk.specs.Strings.{over, over-eq, over-all, over-map, one_if, count, count-both}
 use Rattle.lanes.specs.Slicing.{lanes}
 use Rattle.combining.specs.Integers.{same_z, same_z_so, same_z_other}
-use Rattle.combining.specs.Combination.{most_multiplier, combination, combined_miss, is_signed_miss, any_miss, result_of, result_at, is_sample}
+use Rattle.combining.specs.Combination.{most_multiplier, combination, combined_miss, is_signed_miss, any_miss, result_of, result_at}
+use Rattle.combining.specs.Combination.{is_sample}
 use Rattle.combining.specs.Combination.{entry, Samples, sample-is, some_miss, all-hit, result_miss, value_hits}
 use Rattle.combining.specs.Combining.{unfit, combine_of}
 use Rattle.combining.specs.Reading.{samples_combined}

@@ -20,7 +20,8 @@ use Rattle.engine.specs.Rows.{draw-reads}
 use Rattle.engine.specs.Parts.{Table}
 
 -- ---- lists drawn in one call
-pub draw_samples : (program strings : List ℕ) (sign room : ℕ) (xs : List ℤ) → draw_signed_of program strings sign room ≡ gives xs → Samples xs
+pub draw_samples : (program strings : List ℕ) (sign room : ℕ) (xs : List ℤ) → draw_signed_of program strings sign room ≡ gives xs →
+    Samples xs
 draw_samples program strings sign room xs e =
     let (outputs, read) = draw-reads program strings room (λ rows outputs. signed_samples_of rows outputs sign room) xs e in
     read_samples (numbers_of program).rows outputs sign room xs read
