@@ -2,7 +2,6 @@
 use Rattle.std.specs.Prelude.{ℕ, Bool, true, false, List}
 use Rattle.laws.specs.Outcome.{Outcome, refused, gives}
 use Rattle.weights.specs.declared.building.Usage.{Usage}
-use Rattle.weights.specs.declared.building.Usage.TheVariants as Usage
 use Rattle.machine.specs.Runs.{Ended}
 
 -- what is returned: 0, or the refusal's number

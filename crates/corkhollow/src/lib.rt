@@ -2,6 +2,8 @@
 //
 // Every function takes any content and any length, and returns 0 or the number of a refusal. Its contract cites the definition of the
 // operation that it wraps, through specs/Calls.antt.
+#![tactic(auto)]
+
 mod draws;
 mod matrices;
 mod pools;

@@ -1,8 +1,5 @@
 // For C: one entropy buffer and several signers (include/corkhollow.h). Each function returns 0 or the refusal's number, and has the
-// contract of the operation that it wraps.
-//
-// A function over a list of records is proved by hand, step by step, so it does no more than call: what an answer comes to stands in the
-// first three.
+// contract of the operation that it wraps. What an answer comes to stands in the first three functions.
 ghost use Rattle.std.specs.Prelude.{◌≡◌};
 ghost use Rattle.laws.specs.Lay.{lay};
 ghost use Rattle.laws.specs.Outcome.{laid};
@@ -12,8 +9,8 @@ ghost use Rattle.corkhollow.specs.Calls.{returned, told};
 use fields::number;
 use pool::{Drawn, Opened, Signer};
 
-// What an opening or a refill returns. It is open to the crate, since the walk that the two share names it.
-pub(crate) fn opened_number(answer: Opened) -> u32
+// What an opening or a refill returns.
+fn opened_number(answer: Opened) -> u32
     ensures { result ≡ returned (opened_of answer) }
 {
     match answer {

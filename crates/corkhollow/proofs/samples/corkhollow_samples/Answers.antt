@@ -1,0 +1,11 @@
+-- `corkhollow::corkhollow_samples` meets its contract. Assumes nothing.
+use mathlib.Core.Path.{refl}
+use Rattle.lanes.specs.Samples.{sampled}
+use Rattle.corkhollow.specs.Telling.{lays}
+use Rattle.corkhollow.proofs.samples.corkhollow_samples.Goals as goal
+
+pub returns-in-Refused : goal.returns-in-Refused
+returns-in-Refused c = lays sampled (λ xs. tt) _ c.in-Refused.is (search) c.number.ensures
+
+pub returns-in-All : goal.returns-in-All
+returns-in-All c = lays sampled (λ xs. tt) _ c.in-All.is (search) refl
