@@ -1,8 +1,10 @@
-// Lines of standard input, one at a time.
-ghost use Rattle.io.specs.Counts.{IsPrefixLen};
+// Lines of an input, one at a time. A failed read is passed on.
+ghost use Rattle.std.specs.Prelude.{◌≡◌, MatchResult, length};
+ghost use Rattle.std.specs.Counts.{IsPrefixLen};
 
 use crate::parsing::{piece_end, wide};
-use libc::{STDIN_FILENO, STDOUT_FILENO};
+use std::io;
+use std::io::{Read, Write};
 
 // Room for the longest line, with its end.
 pub const LINE: usize = 12_288;
@@ -17,42 +19,46 @@ pub const PROGRAM: usize = 2_621_520;
 pub const BYTES: usize = 4160;
 
 // Says that a line is longer than the room for it: no answer of the reference says so.
-fn print_too_long() {
-    io::write_all(STDOUT_FILENO, b"a line is too long\n");
+fn print_too_long<W: Write>(out: &mut W) -> io::Result<()> {
+    writeln!(out, "a line is too long")
 }
 
 // Says that there may be lines that were not read.
-pub fn print_too_many() {
-    io::write_all(STDOUT_FILENO, b"too many lines\n");
+pub fn print_too_many<W: Write>(out: &mut W) -> io::Result<()> {
+    writeln!(out, "too many lines")
 }
 
 // What stands for a byte where the input has ended.
 const END: u64 = 256;
 
 // The next byte of the input, or `END`.
-fn next_byte() -> u64 {
+fn next_byte<R: Read>(input: &mut R) -> io::Result<u64> {
     let mut byte = [0u8; 1];
-    let n = io::read_full(STDIN_FILENO, &mut byte);
-    if n == 0 { END } else { wide(byte[0]) }
+    let n = input.read(&mut byte)?;
+    Ok(if n == 0 { END } else { wide(byte[0]) })
 }
 
 // Reads the next line, with its end, to the front of `line`, and answers how many bytes it has: none where the input has ended, or
-// where the line is too long, which is said.
-pub fn next_line(line: &mut [u8]) -> usize
-    ensures { IsPrefixLen result line.new }
+// where the line is too long, which is said. After an error the buffer is as long as it was, with what was read at its front.
+pub fn next_line<R: Read, W: Write>(
+    input: &mut R,
+    out: &mut W,
+    line: &mut [u8],
+) -> io::Result<usize>
+    ensures { MatchResult result (λ n. IsPrefixLen n line.new) (λ e. length line.new ≡ length line.old) }
 {
     for k in 0..line.len() {
-        let byte = next_byte();
+        let byte = next_byte(input)?;
         if byte == END {
-            return k;
+            return Ok(k);
         }
         line[k] = (byte % 256) as u8;
         if byte == 10 {
-            return k + 1;
+            return Ok(k + 1);
         }
     }
-    print_too_long();
-    0
+    print_too_long(out)?;
+    Ok(0)
 }
 
 // A line without its end.

@@ -1,6 +1,6 @@
 // The fields of a line: numbers and arrays in hexadecimal, one space between any two.
 ghost use Rattle.std.specs.Prelude.{◌≤◌, ◌<◌, ◌≡◌, length, take};
-ghost use Rattle.io.specs.Counts.{IsPrefixLen};
+ghost use Rattle.std.specs.Counts.{IsPrefixLen};
 
 // The smaller of the two.
 pub fn least(a: usize, b: usize) -> usize
