@@ -7,86 +7,81 @@
 //     u HEX    64 packed strings, one after another: the columns that the walks on them have used together, or `refused` and the number
 //     t        T, the sum of the matrix's rows, in hexadecimal: where it is 2^n, no string misses (`file-misses`, walk/Theorems)
 //     h HEX    the highest row with a 1 in the first HEX columns: no string hits a row above it within them (`file-set`, walk/Theorems)
-ghost use Rattle.io.specs.Counts.{IsPrefixLen};
+//
+// A failed read or write ends the program with that error.
+#![tactic(auto)]
+
+ghost use Rattle.std.specs.Prelude.{◌≡◌, MatchResult, length};
+ghost use Rattle.std.specs.Counts.{IsPrefixLen};
 
 mod rows;
 
 use case_lines::lines::{LINE, LINES, next_line, print_too_many, text};
 use case_lines::parsing::{least, size, take_bytes};
 use fields::Refusal;
-use libc::STDOUT_FILENO;
 use rows::{WIDTH, highest, print_total};
 use spent::Total;
+use std::io;
+use std::io::{BufReader, BufWriter, Write};
 use walk::Walked;
 
-fn print_refusal(why: Refusal) {
-    io::write_all(STDOUT_FILENO, b"refused ");
-    io::print_decimal(STDOUT_FILENO, fields::number(why) as u64);
+fn print_refusal<W: Write>(out: &mut W, why: Refusal) -> io::Result<()> {
+    write!(out, "refused {}", fields::number(why))
 }
 
-fn print_walked(answer: Walked) {
-    io::write_all(STDOUT_FILENO, b" ");
+fn print_walked<W: Write>(out: &mut W, answer: Walked) -> io::Result<()> {
     match answer {
-        Walked::Refused(why) => print_refusal(why),
-        Walked::Hit { row, used } => {
-            io::print_decimal(STDOUT_FILENO, row as u64);
-            io::write_all(STDOUT_FILENO, b" ");
-            io::print_decimal(STDOUT_FILENO, used as u64);
-        }
-        Walked::Miss { used } => {
-            io::write_all(STDOUT_FILENO, b"miss ");
-            io::print_decimal(STDOUT_FILENO, used as u64);
-        }
+        Walked::Refused(why) => print_refusal(out, why),
+        Walked::Hit { row, used } => write!(out, "{row} {used}"),
+        Walked::Miss { used } => write!(out, "miss {used}"),
     }
-    io::write_all(STDOUT_FILENO, b"\n");
 }
 
 // A string's line.
-fn string_line(text: &[u8], file: &[u8]) {
+fn string_line<W: Write>(out: &mut W, text: &[u8], file: &[u8]) -> io::Result<()> {
     let mut string = [0u8; WIDTH];
     let n = take_bytes(text, &mut string);
-    io::write_all(STDOUT_FILENO, text);
-    print_walked(walk::walk(file, &string[..n]));
+    out.write_all(text)?;
+    write!(out, " ")?;
+    print_walked(out, walk::walk(file, &string[..n]))?;
+    writeln!(out)
 }
 
-fn print_spent(answer: Total) {
+fn print_spent<W: Write>(out: &mut W, answer: Total) -> io::Result<()> {
     match answer {
-        Total::Refused(why) => print_refusal(why),
-        Total::Columns(total) => {
-            io::print_decimal(STDOUT_FILENO, total as u64);
-        }
+        Total::Refused(why) => print_refusal(out, why),
+        Total::Columns(total) => write!(out, "{total}"),
     }
-    io::write_all(STDOUT_FILENO, b"\n");
 }
 
 // The line of 64 strings.
-fn strings_line(text: &[u8], file: &[u8]) {
+fn strings_line<W: Write>(out: &mut W, text: &[u8], file: &[u8]) -> io::Result<()> {
     let mut strings = [0u8; 1536];
     let n = take_bytes(text, &mut strings);
-    print_spent(spent::spent(file, &strings[..n]));
+    print_spent(out, spent::spent(file, &strings[..n]))?;
+    writeln!(out)
 }
 
 // The line of the highest row in some columns.
-fn highest_line(text: &[u8], file: &[u8]) {
-    io::print_decimal(STDOUT_FILENO, highest(file, size(text)) as u64);
-    io::write_all(STDOUT_FILENO, b"\n");
+fn highest_line<W: Write>(out: &mut W, text: &[u8], file: &[u8]) -> io::Result<()> {
+    writeln!(out, "{}", highest(file, size(text)))
 }
 
-fn print_note(text: &[u8]) {
-    io::write_all(STDOUT_FILENO, b"# ");
-    io::write_all(STDOUT_FILENO, text);
-    io::write_all(STDOUT_FILENO, b"\n");
+fn print_note<W: Write>(out: &mut W, text: &[u8]) -> io::Result<()> {
+    write!(out, "# ")?;
+    out.write_all(text)?;
+    writeln!(out)
 }
 
 // A line that the matrix file is read for.
-fn reading_line(kind: u8, text: &[u8], file: &[u8]) {
+fn reading_line<W: Write>(out: &mut W, kind: u8, text: &[u8], file: &[u8]) -> io::Result<()> {
     match kind {
-        b'#' => print_note(text),
-        b's' => string_line(text, file),
-        b'u' => strings_line(text, file),
-        b't' => print_total(file),
-        b'h' => highest_line(text, file),
-        _ => {}
+        b'#' => print_note(out, text),
+        b's' => string_line(out, text, file),
+        b'u' => strings_line(out, text, file),
+        b't' => print_total(out, file),
+        b'h' => highest_line(out, text, file),
+        _ => Ok(()),
     }
 }
 
@@ -96,30 +91,33 @@ fn kind_of(line: &[u8]) -> u8 {
 }
 
 // Carries out one line, and answers how many bytes the matrix file has from now on.
-fn carry_out(line: &[u8], file: &mut [u8], size: usize) -> usize
+fn carry_out<W: Write>(out: &mut W, line: &[u8], file: &mut [u8], size: usize) -> io::Result<usize>
     requires { IsPrefixLen size file.old }
-    ensures { IsPrefixLen result file.new }
+    ensures { MatchResult result (λ n. IsPrefixLen n file.new) (λ e. length file.new ≡ length file.old) }
 {
     let kind = kind_of(line);
     let from = least(2, line.len());
     let text = &line[from..];
     if kind == b'm' {
-        return take_bytes(text, file);
+        return Ok(take_bytes(text, file));
     }
-    reading_line(kind, text, &file[..size]);
-    size
+    reading_line(out, kind, text, &file[..size])?;
+    Ok(size)
 }
 
-fn main() {
+fn main(rt: HostRuntime) -> io::Result<()> {
+    let mut input = BufReader::new(rt.alloc(), rt.reader())?;
+    let mut out = BufWriter::new(rt.alloc(), io::writer(&rt))?;
     let mut line = [0u8; LINE];
     let mut file = [0u8; 3080];
     let mut size: usize = 0;
     for passed in 0..LINES {
-        let n = next_line(&mut line);
+        let n = next_line(&mut input, &mut out, &mut line)?;
         if n == 0 {
-            return;
+            return out.flush();
         }
-        size = carry_out(text(&line[..n]), &mut file, size);
+        size = carry_out(&mut out, text(&line[..n]), &mut file, size)?;
     }
-    print_too_many();
+    print_too_many(&mut out)?;
+    out.flush()
 }

@@ -2,7 +2,8 @@
 ghost use Rattle.std.specs.Prelude.{◌*◌, ◌≤◌, ◌<◌};
 
 use case_lines::parsing::{least, wide};
-use libc::STDOUT_FILENO;
+use std::io;
+use std::io::Write;
 
 // The bytes of a row, or of a string, of the most columns.
 pub(crate) const WIDTH: usize = 24;
@@ -33,15 +34,16 @@ fn column_sum(file: &[u8], rows: usize, width: usize, j: usize) -> usize
 }
 
 // Prints the bytes of a number whose part above them is `top`.
-fn print_number(top: usize, bytes: &[u8]) {
-    io::print_hex(STDOUT_FILENO, top as u64, 1);
+fn print_number<W: Write>(out: &mut W, top: usize, bytes: &[u8]) -> io::Result<()> {
+    write!(out, "{top:x}")?;
     for j in 0..bytes.len() {
-        io::print_hex(STDOUT_FILENO, wide(bytes[j]), 2);
+        write!(out, "{:02x}", bytes[j])?;
     }
+    Ok(())
 }
 
 // T, the sum of the rows, and a newline, for columns that fill their bytes.
-pub(crate) fn print_total(file: &[u8]) {
+pub(crate) fn print_total<W: Write>(out: &mut W, file: &[u8]) -> io::Result<()> {
     let rows = fields::field(file, 4);
     let width = fields::width(fields::field(file, 6));
     let mut sum = [0u8; WIDTH];
@@ -54,12 +56,12 @@ pub(crate) fn print_total(file: &[u8]) {
         sum[j] = (carry % 256) as u8;
         carry /= 256;
     }
-    print_number(carry, &sum[..used]);
-    print_newline();
+    print_number(out, carry, &sum[..used])?;
+    print_newline(out)
 }
 
-fn print_newline() {
-    io::write_all(STDOUT_FILENO, b"\n");
+fn print_newline<W: Write>(out: &mut W) -> io::Result<()> {
+    writeln!(out)
 }
 
 // Whether the row that begins at byte `at` has a 1 in its first `columns` columns.
