@@ -3,6 +3,8 @@ ghost use Rattle.std.specs.Prelude.{◌≡◌, length};
 
 use case_lines::answers::{begin, print_laid, print_word_digits, refuse, see_bytes, see_words};
 use lanes::{LANES, Sampled};
+use std::io;
+use std::io::Write;
 
 // Room for samples that are lent.
 pub(crate) const SAMPLES: usize = 96;
@@ -29,41 +31,49 @@ fn patterns(samples: &[i16; SAMPLES]) -> [u64; SAMPLES]
 }
 
 // Sees that samples are as they were filled, from place `from` on.
-fn see_signed(samples: &[i16; SAMPLES], from: usize) {
+fn see_signed<W: Write>(out: &mut W, samples: &[i16; SAMPLES], from: usize) -> io::Result<()> {
     let words = patterns(samples);
     let before = [FILL_PATTERN; SAMPLES];
-    see_words(&words, &before, from);
+    see_words(out, &words, &before, from)
 }
 
 // The samples of all lanes. What stands behind them must be as it was filled.
-pub(crate) fn print_all_signed(samples: &[i16; SAMPLES]) {
+pub(crate) fn print_all_signed<W: Write>(out: &mut W, samples: &[i16; SAMPLES]) -> io::Result<()> {
     let words = patterns(samples);
-    print_word_digits(&words[0..LANES], 4);
-    see_signed(samples, LANES);
+    print_word_digits(out, &words[0..LANES], 4)?;
+    see_signed(out, samples, LANES)
 }
 
-pub(crate) fn print_sampled(answer: Sampled, samples: &[u8; SAMPLES]) {
+pub(crate) fn print_sampled<W: Write>(
+    out: &mut W,
+    answer: Sampled,
+    samples: &[u8; SAMPLES],
+) -> io::Result<()> {
     match answer {
         Sampled::Refused(why) => {
-            refuse(why);
-            see_bytes(samples);
+            refuse(out, why)?;
+            see_bytes(out, samples)
         }
         Sampled::All => {
-            begin();
-            print_laid(samples, LANES);
+            begin(out)?;
+            print_laid(out, samples, LANES)
         }
     }
 }
 
-pub(crate) fn print_signed(answer: Sampled, samples: &[i16; SAMPLES]) {
+pub(crate) fn print_signed<W: Write>(
+    out: &mut W,
+    answer: Sampled,
+    samples: &[i16; SAMPLES],
+) -> io::Result<()> {
     match answer {
         Sampled::Refused(why) => {
-            refuse(why);
-            see_signed(samples, 0);
+            refuse(out, why)?;
+            see_signed(out, samples, 0)
         }
         Sampled::All => {
-            begin();
-            print_all_signed(samples);
+            begin(out)?;
+            print_all_signed(out, samples)
         }
     }
 }

@@ -4,25 +4,32 @@ use case_lines::answers::{FILL, FILL_WORD, begin, print_laid_words, refuse, see_
 use case_lines::lines::BYTES;
 use case_lines::parsing::{field, least, number, size, take_bytes, take_words};
 use lanes::Sliced;
+use std::io;
+use std::io::Write;
 
 // Room for words that are lent.
 const WORDS: usize = 224;
 
-fn print_sliced(answer: Sliced, words: &[u64; WORDS], before: &[u64; WORDS]) {
+fn print_sliced<W: Write>(
+    out: &mut W,
+    answer: Sliced,
+    words: &[u64; WORDS],
+    before: &[u64; WORDS],
+) -> io::Result<()> {
     match answer {
         Sliced::Refused(why) => {
-            refuse(why);
-            see_words(words, before, 0);
+            refuse(out, why)?;
+            see_words(out, words, before, 0)
         }
         Sliced::Words(n) => {
-            begin();
-            print_laid_words(words, before, n);
+            begin(out)?;
+            print_laid_words(out, words, before, n)
         }
     }
 }
 
 // columns STRINGS words-lent
-pub(crate) fn slice_case(line: &[u8]) {
+pub(crate) fn slice_case<W: Write>(out: &mut W, line: &[u8]) -> io::Result<()> {
     let columns = size(field(line, 1));
     let mut strings = [0u8; BYTES];
     let n = take_bytes(field(line, 2), &mut strings);
@@ -30,22 +37,22 @@ pub(crate) fn slice_case(line: &[u8]) {
     let mut words = before;
     let lent = least(size(field(line, 3)), WORDS);
     let answer = lanes::slice(columns, &strings[..n], &mut words[0..lent]);
-    print_sliced(answer, &words, &before);
+    print_sliced(out, answer, &words, &before)
 }
 
 // rows OUTPUTS samples-lent
-pub(crate) fn samples_case(line: &[u8]) {
+pub(crate) fn samples_case<W: Write>(out: &mut W, line: &[u8]) -> io::Result<()> {
     let rows = size(field(line, 1));
     let mut outputs = [0u64; 16];
     let n = take_words(field(line, 2), &mut outputs);
     let mut samples = [FILL; SAMPLES];
     let lent = least(size(field(line, 3)), SAMPLES);
     let answer = lanes::samples(rows, &outputs[..n], &mut samples[0..lent]);
-    print_sampled(answer, &samples);
+    print_sampled(out, answer, &samples)
 }
 
 // rows OUTPUTS sign samples-lent
-pub(crate) fn signed_samples_case(line: &[u8]) {
+pub(crate) fn signed_samples_case<W: Write>(out: &mut W, line: &[u8]) -> io::Result<()> {
     let rows = size(field(line, 1));
     let mut outputs = [0u64; 16];
     let n = take_words(field(line, 2), &mut outputs);
@@ -53,5 +60,5 @@ pub(crate) fn signed_samples_case(line: &[u8]) {
     let mut samples = [FILL_SAMPLE; SAMPLES];
     let lent = least(size(field(line, 4)), SAMPLES);
     let answer = lanes::signed_samples(rows, &outputs[..n], sign, &mut samples[0..lent]);
-    print_signed(answer, &samples);
+    print_signed(out, answer, &samples)
 }

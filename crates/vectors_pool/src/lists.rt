@@ -1,5 +1,4 @@
-// Lists of signers by value (02, order 9). The borrow checker covers no reference to a record, so the three functions that lend a list to
-// an operation are proved by hand, and only they have such a reference: what calls them passes lists, and is covered.
+// Lists of signers by value (02, order 9): the three functions that lend a list to an operation, and tell its answer in the last record.
 ghost use Rattle.std.specs.Prelude.{◌≤◌};
 
 use fields::Refusal;

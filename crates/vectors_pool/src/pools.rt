@@ -4,6 +4,8 @@ use crate::lists::{LAST, ROOM};
 use case_lines::answers::{begin_with, print_number, print_word_digits, see_words};
 use case_lines::parsing::{field, least, size, take_shorts};
 use pool::Signer;
+use std::io;
+use std::io::Write;
 
 // The most records of a line.
 const MOST: usize = 20;
@@ -46,59 +48,80 @@ fn spelled(list: [Signer; ROOM]) -> [u64; NUMBERS] {
 }
 
 // Prints the first `laid` numbers, if any. All others must be as they were.
-fn print_front(before: &[u64], after: &[u64], laid: usize) {
+fn print_front<W: Write>(
+    out: &mut W,
+    before: &[u64],
+    after: &[u64],
+    laid: usize,
+) -> io::Result<()> {
     let n = least(laid, after.len());
     if 0 < n {
-        print_word_digits(&after[0..n], 8);
+        print_word_digits(out, &after[0..n], 8)?;
     }
-    see_words(after, before, n);
+    see_words(out, after, before, n)
 }
 
 // Prints the n records that were lent, unless the call is refused. All others must be as they were; but the last tells the answer.
-fn print_records(granted: bool, before: [Signer; ROOM], after: [Signer; ROOM], n: usize) {
+fn print_records<W: Write>(
+    out: &mut W,
+    granted: bool,
+    before: [Signer; ROOM],
+    after: [Signer; ROOM],
+    n: usize,
+) -> io::Result<()> {
     let laid = if granted { 3 * least(n, MOST) } else { 0 };
     let was = spelled(before);
     let is = spelled(after);
-    print_front(&was[0..BEFORE_LAST], &is[0..BEFORE_LAST], laid);
+    print_front(out, &was[0..BEFORE_LAST], &is[0..BEFORE_LAST], laid)
 }
 
 // The answer of an opening or a refill.
-fn print_opened(before: [Signer; ROOM], after: [Signer; ROOM], n: usize) {
+fn print_opened<W: Write>(
+    out: &mut W,
+    before: [Signer; ROOM],
+    after: [Signer; ROOM],
+    n: usize,
+) -> io::Result<()> {
     let told = after[LAST];
-    begin_with(told.reserve as u64);
-    print_records(told.reserve == 0, before, after, n);
+    begin_with(out, told.reserve as u64)?;
+    print_records(out, told.reserve == 0, before, after, n)
 }
 
 // words SIGNERS
-pub(crate) fn open_case(line: &[u8]) {
+pub(crate) fn open_case<W: Write>(out: &mut W, line: &[u8]) -> io::Result<()> {
     let mut numbers = [FILL_SHORT; NUMBERS];
     let n = least(take_shorts(field(line, 2), &mut numbers) / 3, MOST);
     let list = records(&numbers);
     let after = lists::opened(size(field(line, 1)), list, n);
-    print_opened(list, after, n);
+    print_opened(out, list, after, n)
 }
 
 // words SIGNERS
-pub(crate) fn refill_case(line: &[u8]) {
+pub(crate) fn refill_case<W: Write>(out: &mut W, line: &[u8]) -> io::Result<()> {
     let mut numbers = [FILL_SHORT; NUMBERS];
     let n = least(take_shorts(field(line, 2), &mut numbers) / 3, MOST);
     let list = records(&numbers);
     let after = lists::refilled(size(field(line, 1)), list, n);
-    print_opened(list, after, n);
+    print_opened(out, list, after, n)
 }
 
 // The answer of a draw.
-fn print_drawn(before: [Signer; ROOM], after: [Signer; ROOM], n: usize) {
+fn print_drawn<W: Write>(
+    out: &mut W,
+    before: [Signer; ROOM],
+    after: [Signer; ROOM],
+    n: usize,
+) -> io::Result<()> {
     let told = after[LAST];
-    begin_with(told.reserve as u64);
+    begin_with(out, told.reserve as u64)?;
     if told.reserve == 0 {
-        print_number(4_294_967_296 * told.drawn as u64 + told.cap as u64);
+        print_number(out, 4_294_967_296 * told.drawn as u64 + told.cap as u64)?;
     }
-    print_records(told.reserve == 0, before, after, n);
+    print_records(out, told.reserve == 0, before, after, n)
 }
 
 // words SIGNERS signer q
-pub(crate) fn draw_case(line: &[u8]) {
+pub(crate) fn draw_case<W: Write>(out: &mut W, line: &[u8]) -> io::Result<()> {
     let mut numbers = [FILL_SHORT; NUMBERS];
     let n = least(take_shorts(field(line, 2), &mut numbers) / 3, MOST);
     let list = records(&numbers);
@@ -109,5 +132,5 @@ pub(crate) fn draw_case(line: &[u8]) {
         size(field(line, 3)),
         size(field(line, 4)),
     );
-    print_drawn(list, after, n);
+    print_drawn(out, list, after, n)
 }

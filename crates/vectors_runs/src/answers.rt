@@ -4,17 +4,19 @@ use case_lines::hashes::{with_number, with_words};
 use case_lines::parsing::least;
 use machine::Run;
 use programs::Checked;
+use std::io;
+use std::io::Write;
 
-pub(crate) fn print_checked(answer: Checked) {
+pub(crate) fn print_checked<W: Write>(out: &mut W, answer: Checked) -> io::Result<()> {
     match answer {
-        Checked::Refused(why) => refuse(why),
+        Checked::Refused(why) => refuse(out, why),
         Checked::Program(p) => {
-            begin();
-            print_size(p.registers);
-            print_size(p.inputs);
-            print_size(p.outputs);
-            print_size(p.rows);
-            print_number(p.count as u64);
+            begin(out)?;
+            print_size(out, p.registers)?;
+            print_size(out, p.inputs)?;
+            print_size(out, p.outputs)?;
+            print_size(out, p.rows)?;
+            print_number(out, p.count as u64)
         }
     }
 }
@@ -29,19 +31,26 @@ pub(crate) fn outputs_of(program: &[u8]) -> usize {
 }
 
 // A run's position, a count, and whether it finished.
-pub(crate) fn print_run(run: Run, count: u32) {
-    begin();
-    print_number(run.position as u64);
-    print_number(count as u64);
-    print_number(run.finished as u64);
+pub(crate) fn print_run<W: Write>(out: &mut W, run: Run, count: u32) -> io::Result<()> {
+    begin(out)?;
+    print_number(out, run.position as u64)?;
+    print_number(out, count as u64)?;
+    print_number(out, run.finished as u64)
 }
 
 // What is left of a program's runs: the last one with the count of all of them, the outputs, and the hash.
-pub(crate) fn print_end(program: &[u8], last: Run, count: u32, outputs: &[u64], hash: u64) {
+pub(crate) fn print_end<W: Write>(
+    out: &mut W,
+    program: &[u8],
+    last: Run,
+    count: u32,
+    outputs: &[u64],
+    hash: u64,
+) -> io::Result<()> {
     let o = least(outputs_of(program), outputs.len());
-    print_run(last, count);
-    print_words(&outputs[0..o]);
-    print_hash(hash);
+    print_run(out, last, count)?;
+    print_words(out, &outputs[0..o])?;
+    print_hash(out, hash)
 }
 
 // A hash with a run more: its numbers, registers and outputs.

@@ -1,6 +1,6 @@
 // The cases of programs that are too long for a line, of which the middle part is repeated.
 ghost use Rattle.std.specs.Prelude.{◌≤◌, length};
-ghost use Rattle.io.specs.Counts.{IsPrefixLen};
+ghost use Rattle.std.specs.Counts.{IsPrefixLen};
 
 use crate::answers::{print_checked, print_end, with_call};
 use case_lines::answers::refuse;
@@ -9,6 +9,8 @@ use case_lines::lines::BYTES;
 use case_lines::parsing::{field, least, short, size, take_bytes, take_words};
 use machine::{Ran, State};
 use programs::Program;
+use std::io;
+use std::io::Write;
 
 // Lays a part at byte `at` of a program, as much as there is room for, and answers the byte behind it.
 fn append(program: &mut [u8], at: usize, part: &[u8]) -> usize
@@ -47,28 +49,28 @@ fn take_program(line: &[u8], program: &mut [u8]) -> usize
 }
 
 // FIRST MIDDLE times LAST
-pub(crate) fn check_case(line: &[u8], program: &mut [u8]) {
+pub(crate) fn check_case<W: Write>(out: &mut W, line: &[u8], program: &mut [u8]) -> io::Result<()> {
     let n = take_program(line, program);
-    print_checked(checker::check(&program[..n]));
+    print_checked(out, checker::check(&program[..n]))
 }
 
-fn start(program: &[u8], inputs: &[u64], budget: u32) {
+fn start<W: Write>(out: &mut W, program: &[u8], inputs: &[u64], budget: u32) -> io::Result<()> {
     let state = State::fresh();
     let mut registers = state.registers;
     let mut outputs = state.outputs;
     match machine::start(program, inputs, &mut registers, &mut outputs, budget) {
-        Ran::Refused(why) => refuse(why),
+        Ran::Refused(why) => refuse(out, why),
         Ran::Done(run) => {
             let hash = with_call(EMPTY, program, run, &registers, &outputs);
-            print_end(program, run, run.count, &outputs, hash);
+            print_end(out, program, run, run.count, &outputs, hash)
         }
     }
 }
 
 // FIRST MIDDLE times LAST INPUTS budget
-pub(crate) fn start_case(line: &[u8], program: &mut [u8]) {
+pub(crate) fn start_case<W: Write>(out: &mut W, line: &[u8], program: &mut [u8]) -> io::Result<()> {
     let n = take_program(line, program);
     let mut inputs = [0u64; Program::INPUTS];
     let i = take_words(field(line, 5), &mut inputs);
-    start(&program[..n], &inputs[..i], short(field(line, 6)));
+    start(out, &program[..n], &inputs[..i], short(field(line, 6)))
 }

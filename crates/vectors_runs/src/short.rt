@@ -5,43 +5,46 @@ use case_lines::lines::BYTES;
 use case_lines::parsing::{field, least, short, size, take_bytes, take_words};
 use machine::Ran;
 use programs::Program;
+use std::io;
+use std::io::Write;
 
 // Room for the registers or the outputs that a line gives, or that are lent.
 const WORDS: usize = 32;
 
 // PROGRAM
-pub(crate) fn check_case(line: &[u8]) {
+pub(crate) fn check_case<W: Write>(out: &mut W, line: &[u8]) -> io::Result<()> {
     let mut program = [0u8; BYTES];
     let n = take_bytes(field(line, 1), &mut program);
-    print_checked(checker::check(&program[..n]));
+    print_checked(out, checker::check(&program[..n]))
 }
 
 // The answer of a start or a resume: the program's own registers and outputs are its result, and the other words must be what they
 // were before.
-fn print_ran(
+fn print_ran<W: Write>(
+    out: &mut W,
     ran: Ran,
     program: &[u8],
     registers: &[u64; WORDS],
     registers_before: &[u64; WORDS],
     outputs: &[u64; WORDS],
     outputs_before: &[u64; WORDS],
-) {
+) -> io::Result<()> {
     match ran {
         Ran::Refused(why) => {
-            refuse(why);
-            see_words(registers, registers_before, 0);
-            see_words(outputs, outputs_before, 0);
+            refuse(out, why)?;
+            see_words(out, registers, registers_before, 0)?;
+            see_words(out, outputs, outputs_before, 0)
         }
         Ran::Done(run) => {
-            print_run(run, run.count);
-            print_laid_words(registers, registers_before, registers_of(program));
-            print_laid_words(outputs, outputs_before, outputs_of(program));
+            print_run(out, run, run.count)?;
+            print_laid_words(out, registers, registers_before, registers_of(program))?;
+            print_laid_words(out, outputs, outputs_before, outputs_of(program))
         }
     }
 }
 
 // PROGRAM INPUTS registers-lent outputs-lent budget
-pub(crate) fn start_case(line: &[u8]) {
+pub(crate) fn start_case<W: Write>(out: &mut W, line: &[u8]) -> io::Result<()> {
     let mut bytes = [0u8; BYTES];
     let n = take_bytes(field(line, 1), &mut bytes);
     let program = &bytes[..n];
@@ -59,11 +62,11 @@ pub(crate) fn start_case(line: &[u8]) {
         &mut outputs[0..o],
         short(field(line, 5)),
     );
-    print_ran(ran, program, &registers, &before, &outputs, &before);
+    print_ran(out, ran, program, &registers, &before, &outputs, &before)
 }
 
 // PROGRAM INPUTS REGISTERS OUTPUTS position budget
-pub(crate) fn resume_case(line: &[u8]) {
+pub(crate) fn resume_case<W: Write>(out: &mut W, line: &[u8]) -> io::Result<()> {
     let mut bytes = [0u8; BYTES];
     let n = take_bytes(field(line, 1), &mut bytes);
     let program = &bytes[..n];
@@ -84,11 +87,12 @@ pub(crate) fn resume_case(line: &[u8]) {
         short(field(line, 6)),
     );
     print_ran(
+        out,
         ran,
         program,
         &registers,
         &registers_before,
         &outputs,
         &outputs_before,
-    );
+    )
 }

@@ -7,6 +7,8 @@ use case_lines::parsing::{field, least, take_bytes, take_shorts, take_words};
 use fields::Written;
 use machine::{Ran, Run, State};
 use programs::Program;
+use std::io;
+use std::io::Write;
 
 // Call k of a program: the first starts it, and each further one resumes it at a position.
 fn call(
@@ -26,13 +28,14 @@ fn call(
 }
 
 // Calls with each of the budgets, each as the one before left the program.
-fn stops(
+fn stops<W: Write>(
+    out: &mut W,
     program: &[u8],
     inputs: &[u64],
     budgets: &[u32],
     registers: &mut [u64],
     outputs: &mut [u64],
-) {
+) -> io::Result<()> {
     let mut last = Run {
         finished: false,
         position: 0,
@@ -44,17 +47,17 @@ fn stops(
     for k in 0..budgets.len() {
         let position = last.position;
         match call(k, program, inputs, registers, outputs, position, budgets[k]) {
-            Ran::Refused(why) => return refuse(why),
+            Ran::Refused(why) => return refuse(out, why),
             Ran::Done(run) => last = run,
         }
         total = std::num::wrapping_add_u32(total, last.count);
         hash = with_call(hash, program, last, registers, outputs);
     }
-    print_end(program, last, total, outputs, hash);
+    print_end(out, program, last, total, outputs, hash)
 }
 
 // FILE INPUTS BUDGETS
-pub(crate) fn stops_case(line: &[u8], program: &mut [u8]) {
+pub(crate) fn stops_case<W: Write>(out: &mut W, line: &[u8], program: &mut [u8]) -> io::Result<()> {
     let mut file = [0u8; BYTES];
     let n = take_bytes(field(line, 1), &mut file);
     let mut inputs = [0u64; Program::INPUTS];
@@ -65,16 +68,17 @@ pub(crate) fn stops_case(line: &[u8], program: &mut [u8]) {
     let mut registers = state.registers;
     let mut outputs = state.outputs;
     match compiler::compile(&file[..n], program) {
-        Written::Refused(why) => refuse(why),
+        Written::Refused(why) => refuse(out, why),
         Written::Length(length) => {
             let p = least(length, program.len());
             stops(
+                out,
                 &program[0..p],
                 &inputs[..i],
                 &budgets[..b],
                 &mut registers,
                 &mut outputs,
-            );
+            )
         }
     }
 }
