@@ -2,7 +2,7 @@
 // with that error.
 #![tactic(auto)]
 
-ghost use Rattle.std.specs.Prelude.{IfOk};
+ghost use Rattle.std.specs.Prelude.{◌≡◌, MatchResult, length};
 ghost use Rattle.std.specs.Counts.{IsPrefixLen};
 
 mod lines;
@@ -39,9 +39,10 @@ fn list<W: Write>(out: &mut W, program: &[u8]) -> io::Result<()> {
     }
 }
 
-// Reads until the buffer is full or the input ends, and answers how many bytes were put at the front of the buffer.
+// Reads until the buffer is full or the input ends, and answers how many bytes were put at the front of the buffer. After an error
+// the buffer is as long as it was.
 fn read_full<R: Read>(input: &mut R, buffer: &mut [u8]) -> io::Result<usize>
-    ensures { IfOk result (λ n. IsPrefixLen n buffer.new) }
+    ensures { MatchResult result (λ n. IsPrefixLen n buffer.new) (λ e. length buffer.new ≡ length buffer.old) }
 {
     let mut done = 0;
     while done < buffer.len() {
