@@ -4,6 +4,14 @@
 #![tactic(auto)]
 
 pub mod answers;
+pub mod cases;
+pub mod elements;
 pub mod hashes;
+pub mod lent;
 pub mod lines;
-pub mod parsing;
+
+// Bytes of the longest program that a line makes, with some to spare.
+pub const PROGRAM: usize = 2_621_520;
+
+// Room for the bytes that a line gives, or that are lent for a matrix file.
+pub const BYTES: usize = 4160;

@@ -1,68 +1,72 @@
-// Lines of an input, one at a time. A failed read is passed on.
-ghost use Rattle.std.specs.Prelude.{◌≡◌, MatchResult, length};
-ghost use Rattle.std.specs.Counts.{IsPrefixLen};
+// Lines of standard input, one at a time. A failed read or write is passed on.
+ghost use Rattle.std.specs.Prelude.{◌≡◌, ◌≤◌, ℕ, List, Some, length, take, IfOk, IfSome};
+ghost use Rattle.std.specs.Io.BufRead.{take_through};
 
-use crate::parsing::{piece_end, wide};
+use crate::cases::Case;
+use std::alloc::Global;
 use std::io;
-use std::io::{Read, Write};
+use std::io::{BufRead, BufReader, BufWriter, Printer, Read, Write};
 
 // Room for the longest line, with its end.
-pub const LINE: usize = 12_288;
+const LINE: usize = 12_288;
 
 // No program is given more lines than these.
-pub const LINES: usize = 4096;
+const LINES: usize = 4096;
 
-// Bytes of the longest program that a line makes, with some to spare.
-pub const PROGRAM: usize = 2_621_520;
+// Where a program prints.
+pub type Out<'a> = BufWriter<Printer<'a, HostRuntime>>;
 
-// Room for the bytes that a line gives, or that are lent for a matrix file.
-pub const BYTES: usize = 4160;
-
-// Says that a line is longer than the room for it: no answer of the reference says so.
-fn print_too_long<W: Write>(out: &mut W) -> io::Result<()> {
-    writeln!(out, "a line is too long")
-}
-
-// Says that there may be lines that were not read.
-pub fn print_too_many<W: Write>(out: &mut W) -> io::Result<()> {
-    writeln!(out, "too many lines")
-}
-
-// What stands for a byte where the input has ended.
-const END: u64 = 256;
-
-// The next byte of the input, or `END`.
-fn next_byte<R: Read>(input: &mut R) -> io::Result<u64> {
-    let mut byte = [0u8; 1];
-    let n = input.read(&mut byte)?;
-    Ok(if n == 0 { END } else { wide(byte[0]) })
-}
-
-// Reads the next line, with its end, to the front of `line`, and answers how many bytes it has: none where the input has ended, or
-// where the line is too long, which is said. After an error the buffer is as long as it was, with what was read at its front.
-pub fn next_line<R: Read, W: Write>(
+// Reads the next line, with its end: the front of the bytes that are left. There is none where the input has ended, or where the line is
+// too long, which is said; no answer of the reference says so.
+fn next_line<R: BufRead, W: Write>(
+    alloc: Global,
     input: &mut R,
     out: &mut W,
-    line: &mut [u8],
-) -> io::Result<usize>
-    ensures { MatchResult result (λ n. IsPrefixLen n line.new) (λ e. length line.new ≡ length line.old) }
+) -> io::Result<Option<Vec<u8>>>
+    ensures fits { IfOk result (λ next. IfSome next (λ line. length line.items ≤ 12288)) }
+    ensures reads { (xs : List ℕ) → R.remaining input.old ≡ Some xs →
+        IfOk result (λ next. IfSome next (λ line. line.items ≡ take_through 10 (take 12288 xs))) }
 {
-    for k in 0..line.len() {
-        let byte = next_byte(input)?;
-        if byte == END {
-            return Ok(k);
-        }
-        line[k] = (byte % 256) as u8;
-        if byte == 10 {
-            return Ok(k + 1);
-        }
+    let mut line = Vec::new(alloc);
+    let n = Read::take(input, LINE as u64).read_until(b'\n', &mut line)?;
+    if n == 0 {
+        return Ok(None);
     }
-    print_too_long(out)?;
-    Ok(0)
+    if LINE < n || n == LINE && !line.ends_with(b"\n") {
+        writeln!(out, "a line is too long")?;
+        return Ok(None);
+    }
+    Ok(Some(line))
 }
 
-// A line without its end.
-pub fn text(line: &[u8]) -> &[u8] {
-    let end = piece_end(line, 0, b'\n');
-    &line[0..end]
+// Runs what a program does with a line, without its end, on each line. There may be lines that were not read: that is said.
+pub fn run_lines<F: FnMut(&mut Out<'_>, &[u8]) -> io::Result<()>>(
+    rt: &HostRuntime,
+    mut run: F,
+) -> io::Result<()>
+    requires { F.IsAlwaysCallable run }
+{
+    let mut input = BufReader::new(rt.alloc(), rt.reader())?;
+    let mut out = BufWriter::new(rt.alloc(), io::writer(rt))?;
+    for _ in 0..LINES {
+        let Some(line) = next_line(rt.alloc(), &mut input, &mut out)? else {
+            return out.flush();
+        };
+        run(&mut out, line.strip_suffix(b"\n").unwrap_or(&line))?;
+    }
+    writeln!(out, "too many lines")?;
+    out.flush()
+}
+
+// Runs the case of each line. Its answer is a line.
+pub fn run_cases<F: Fn(&mut Out<'_>, Case) -> io::Result<()>>(
+    rt: &HostRuntime,
+    run: F,
+) -> io::Result<()>
+    requires { F.IsAlwaysCallable run }
+{
+    run_lines(rt, |out, line| {
+        run(out, Case::new(rt.alloc(), line))?;
+        writeln!(out)
+    })
 }

@@ -1,4 +1,5 @@
-// Fields in bytes that hold them, for loops that have tried the room already (01, "Files").
+// Fields in bytes that hold them, for loops that have tried the room already (01, "Files"). Private here and in the machine, since no
+// public function has a precondition (docs/DECISIONS.md, "Reading a field in a loop").
 ghost use Rattle.std.specs.Prelude.{◌≡◌, ◌+◌, ◌*◌, ◌≤◌, ◌<◌, length};
 ghost use Rattle.fields.specs.Fields.{field_of};
 
@@ -7,7 +8,7 @@ pub(crate) fn field_at(file: &[u8], at: usize) -> usize
     requires { at + 2 ≤ length file.now }
     ensures { (result ≡ field_of file.now at) × (result < 65536) }
 {
-    (file[at] as usize) + 256 * (file[at + 1] as usize)
+    usize::from(u16::from_le_bytes([file[at], file[at + 1]]))
 }
 
 // The 32-bit number at `at`, in bytes that hold it.

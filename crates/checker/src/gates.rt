@@ -5,7 +5,7 @@ ghost use Rattle.checker.specs.GateRuns.{GateRun, Passes, SoundGate};
 
 use crate::bytes::{field_at, wide_at};
 use fields::lesser;
-use programs::{Instruction, Program};
+use programs::{Instruction, Left, Program};
 
 // Whether the operands of the AND or OR at byte `at` are registers, and those that it reads written.
 fn sound_gate(
@@ -32,53 +32,51 @@ fn sound_gate(
     written[a] & written[b]
 }
 
-// Where a check is: the byte of the next instruction, and how many are still to be tried.
-#[derive(Clone, Copy)]
-pub(crate) struct Left {
-    pub(crate) at: usize,
-    pub(crate) more: usize,
-}
-
 // Passes ANDs, or ORs, that no refusal is due for, as long as one follows another. The first that is none is left to `admit`. Most of a
-// program is such runs: length and kind are tried as one number, and the room for all of them once.
+// program is such runs: length and kind are tried as one number, and the room for all of them once. File, registers and marks are three
+// arguments here and in two calls: a struct that holds the marks by reference would be lent anew in each.
 fn gates(
     file: &[u8],
-    from: usize,
-    count: usize,
+    from: Left,
     kind: usize,
     registers: usize,
     written: &mut [bool; Program::REGISTERS],
 ) -> Left
-    requires { GateRun file.now from kind registers written.old }
-    ensures { Passes file.now registers count from written.old result.more result.at written.new }
+    requires { GateRun file.now from.at kind registers written.old }
+    ensures { Passes file.now registers from.more from.at written.old result.more result.at written.new }
 {
     let head = Instruction::LENGTH_THREE + 65536 * kind;
-    let most = lesser(count, (file.len() - from) / Instruction::LENGTH_THREE);
-    let mut at = from;
-    let mut done: usize = 0;
-    while done < most && wide_at(file, at) == head && sound_gate(file, at, registers, written) {
-        let to = field_at(file, at + 4);
-        written[to] = true;
+    let most = lesser(
+        from.more,
+        (file.len() - from.at) / Instruction::LENGTH_THREE,
+    );
+    let mut at = from.at;
+    for done in 0..most {
+        if wide_at(file, at) != head || !sound_gate(file, at, registers, written) {
+            return Left {
+                at,
+                more: from.more - done,
+            };
+        }
+        written[field_at(file, at + 4)] = true;
         at += Instruction::LENGTH_THREE;
-        done += 1;
     }
     Left {
         at,
-        more: count - done,
+        more: from.more - most,
     }
 }
 
-// Passes the ANDs, and then the ORs, that follow from byte `from` on.
+// Passes the ANDs, and then the ORs, that follow.
 pub(crate) fn gate_runs(
     file: &[u8],
-    from: usize,
-    count: usize,
+    from: Left,
     registers: usize,
     written: &mut [bool; Program::REGISTERS],
 ) -> Left
-    requires { (registers ≤ most_registers) × (length written.old ≡ most_registers) × (from ≤ length file.now) }
-    ensures { Passes file.now registers count from written.old result.more result.at written.new }
+    requires { (registers ≤ most_registers) × (length written.old ≡ most_registers) × (from.at ≤ length file.now) }
+    ensures { Passes file.now registers from.more from.at written.old result.more result.at written.new }
 {
-    let a = gates(file, from, count, Instruction::KIND_AND, registers, written);
-    gates(file, a.at, a.more, Instruction::KIND_OR, registers, written)
+    let ors = gates(file, from, Instruction::KIND_AND, registers, written);
+    gates(file, ors, Instruction::KIND_OR, registers, written)
 }

@@ -2,13 +2,14 @@
 ghost use Rattle.std.specs.Prelude.{◌≡◌, true, ◌<◌, drop, length};
 ghost use Rattle.laws.specs.Every.{every};
 ghost use Rattle.laws.specs.Lists.{Each};
+ghost use Rattle.fields.specs.Refusal.{answered};
 ghost use Rattle.programs.specs.Limits.{most_outputs, most_registers, within};
-ghost use Rattle.programs.specs.Instructions.{decoded, uses};
+ghost use Rattle.programs.specs.Instructions.{uses};
 ghost use Rattle.checker.specs.Checks.{in_range, instruction_of};
 ghost use Rattle.checker.specs.Operands.{flagged, Flags};
 
 use fields::Refusal;
-use programs::{Decoded, Instruction, Program, decode};
+use programs::{Instruction, Program, decode};
 
 // Whether each operand is below its count.
 fn in_range(i: Instruction, p: Program) -> bool
@@ -16,12 +17,12 @@ fn in_range(i: Instruction, p: Program) -> bool
 {
     let n = p.registers;
     match i {
-        Instruction::Ones(to) => (to as usize) < n,
-        Instruction::Zero(to) => (to as usize) < n,
+        Instruction::Ones(to) | Instruction::Zero(to) => (to as usize) < n,
         Instruction::Input(to, x) => ((to as usize) < n) & ((x as usize) < p.inputs),
         Instruction::Not(to, a) => ((to as usize) < n) & ((a as usize) < n),
-        Instruction::And(to, a, b) => ((to as usize) < n) & ((a as usize) < n) & ((b as usize) < n),
-        Instruction::Or(to, a, b) => ((to as usize) < n) & ((a as usize) < n) & ((b as usize) < n),
+        Instruction::And(to, a, b) | Instruction::Or(to, a, b) => {
+            ((to as usize) < n) & ((a as usize) < n) & ((b as usize) < n)
+        }
         Instruction::Output(o, a) => ((a as usize) < n) & ((o as usize) < p.outputs),
     }
 }
@@ -32,13 +33,11 @@ fn readable(i: Instruction, written: &[bool; Program::REGISTERS]) -> bool
     ensures { result ≡ every (flagged written.now) (uses i).reads }
 {
     match i {
-        Instruction::Ones(_) => true,
-        Instruction::Zero(_) => true,
-        Instruction::Input(_, _) => true,
-        Instruction::Not(_, a) => written[a as usize],
-        Instruction::And(_, a, b) => written[a as usize] & written[b as usize],
-        Instruction::Or(_, a, b) => written[a as usize] & written[b as usize],
-        Instruction::Output(_, a) => written[a as usize],
+        Instruction::Not(_, a) | Instruction::Output(_, a) => written[a as usize],
+        Instruction::And(_, a, b) | Instruction::Or(_, a, b) => {
+            written[a as usize] & written[b as usize]
+        }
+        Instruction::Ones(_) | Instruction::Zero(_) | Instruction::Input(..) => true,
     }
 }
 
@@ -48,13 +47,13 @@ pub(crate) fn mark_register(i: Instruction, written: &mut [bool; Program::REGIST
     ensures { Flags (uses i).writes written.old written.new }
 {
     match i {
-        Instruction::Ones(to) => written[to as usize] = true,
-        Instruction::Zero(to) => written[to as usize] = true,
-        Instruction::Input(to, _) => written[to as usize] = true,
-        Instruction::Not(to, _) => written[to as usize] = true,
-        Instruction::And(to, _, _) => written[to as usize] = true,
-        Instruction::Or(to, _, _) => written[to as usize] = true,
-        Instruction::Output(_, _) => {}
+        Instruction::Ones(to)
+        | Instruction::Zero(to)
+        | Instruction::Input(to, _)
+        | Instruction::Not(to, _)
+        | Instruction::And(to, ..)
+        | Instruction::Or(to, ..) => written[to as usize] = true,
+        Instruction::Output(..) => {}
     }
 }
 
@@ -63,14 +62,8 @@ pub(crate) fn mark_output(i: Instruction, set: &mut [bool; Program::OUTPUTS])
     requires { Each (λ o. o < most_outputs) (uses i).sets × (length set.old ≡ most_outputs) }
     ensures { Flags (uses i).sets set.old set.new }
 {
-    match i {
-        Instruction::Ones(_) => {}
-        Instruction::Zero(_) => {}
-        Instruction::Input(_, _) => {}
-        Instruction::Not(_, _) => {}
-        Instruction::And(_, _, _) => {}
-        Instruction::Or(_, _, _) => {}
-        Instruction::Output(o, _) => set[o as usize] = true,
+    if let Instruction::Output(o, _) = i {
+        set[o as usize] = true;
     }
 }
 
@@ -80,20 +73,16 @@ pub(crate) fn admit(
     at: usize,
     p: Program,
     written: &[bool; Program::REGISTERS],
-) -> Decoded
+) -> Result<Instruction, Refusal>
     requires { within p ≡ true }
-    ensures { decoded result ≡ instruction_of p (flagged written.now) (drop at file.now) }
+    ensures { answered result ≡ instruction_of p (flagged written.now) (drop at file.now) }
 {
-    match decode(file, at) {
-        Decoded::Refused(why) => Decoded::Refused(why),
-        Decoded::Instruction(i) => {
-            if !in_range(i, p) {
-                return Decoded::Refused(Refusal::Operand);
-            }
-            if !readable(i, written) {
-                return Decoded::Refused(Refusal::Unwritten);
-            }
-            Decoded::Instruction(i)
-        }
+    let i = decode(file, at)?;
+    if !in_range(i, p) {
+        return Err(Refusal::Operand);
     }
+    if !readable(i, written) {
+        return Err(Refusal::Unwritten);
+    }
+    Ok(i)
 }

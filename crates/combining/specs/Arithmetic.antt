@@ -1,14 +1,15 @@
 -- A lane's result in the code's words of 16 and 32 bits: no sum and no product of it overflows. Assumes nothing.
 use Rattle.std.specs.Prelude.{ℕ, suc, ◌+◌, ◌≤◌, ◌<◌, ◌≡◌, refl, Bool, true, false, cond, not, ◌&&◌, ◌||◌, List, eqb, ℤ, pos, negsuc, neg_ℤ}
-use Rattle.std.specs.Prelude.{nat_abs, ◌+ℤ◌, ◌*ℤ◌}
-use Rattle.std.proofs.Common.{sym, ap, ap₂, ◌∙◌, subst, ⊎_elim, one-mul, add-one, arith, eqb-true, to_z-of_z}
+use Rattle.std.specs.Prelude.{nat_abs, ◌+ℤ◌, ◌*ℤ◌, length, take}
+use Rattle.std.proofs.Common.{length-take, length-take-le, get_or-take}
+use Rattle.std.proofs.Common.{sym, ap, ap₂, ◌∙◌, subst, ⊎_elim, one-mul, arith, eqb-true, to_z-of_z}
 use Rattle.std.proofs.Math.Facts.{to_z_pos, sfits_widen, sfits_lit}
 use Rattle.std.specs.Int.{w16, w32}
 use mir.Val.{SFits, to_z, of_z, bool_byte}
 use Rattle.std.proofs.Math.IntN.{+ℤ_idr, zero-*ℤ}
 use Rattle.std.specs.Int.Signed.{le_z}
 use Rattle.laws.specs.Tests.{never}
-use Rattle.laws.specs.Sums.{any}
+use Rattle.laws.specs.Sums.{any, any_next}
 use Rattle.laws.specs.Words.{kept}
 use Rattle.lanes.specs.Slicing.{lanes}
 use Rattle.combining.specs.Integers.{same_z_so, size_fits}
@@ -175,13 +176,17 @@ lane_result first second j x1 x2 x3 x4 r s1 s2 s3 s4 h f e = kept _ _ f (e ∙ r
     is : (xs : List ℤ) → Samples xs → passed (entry xs j) ≡ entry xs j
     is xs s = read (entry xs j) (sample-fits (entry xs j) (s.each j h))
 
--- one more entry is tried
-pub tried_more : (xs : List ℤ) (j : ℕ) (sound any' : Bool) → SFits w16 (entry xs j) → sound ≡ is_sample (passed (entry xs j)) →
-    any' ≡ any j (λ j. not (is_sample (entry xs j))) → (not sound || any') ≡ any (j + 1) (λ j. not (is_sample (entry xs j)))
-unfolding any
-tried_more xs j sound any' f e q = rw (e, q, read (entry xs j) f, add-one j)
+-- one more entry is tried, of the first 64
+pub tried_more : (xs : List ℤ) (j : ℕ) (any' sound : Bool) → j < length (take lanes xs) → SFits w16 (entry (take lanes xs) j) →
+    sound ≡ is_sample (passed (entry (take lanes xs) j)) → any' ≡ any j (λ j. not (is_sample (entry xs j))) →
+    (any' || not sound) ≡ any (j + 1) (λ j. not (is_sample (entry xs j)))
+tried_more xs j any' sound h f e q =
+    let at : entry (take lanes xs) j ≡ entry xs j = get_or-take lanes xs j (pos 0) (omega (arith, length-take lanes xs)) in
+    rw (e, q, read (entry (take lanes xs) j) f, at) (sym (any_next j (λ j. not (is_sample (entry xs j)))))
 
-pub tried-all : (xs : List ℤ) (j : ℕ) (any' : Bool) → j ≤ lanes → lanes ≤ j → any' ≡ any j (λ j. not (is_sample (entry xs j))) →
-    any' ≡ unsound xs
+pub tried-all : (xs : List ℤ) (j : ℕ) (any' : Bool) → lanes ≤ length xs → j ≤ length (take lanes xs) → length (take lanes xs) ≤ j →
+    any' ≡ any j (λ j. not (is_sample (entry xs j))) → any' ≡ unsound xs
 unfolding unsound
-tried-all xs j any' a b q = q ∙ ap (λ (n : ℕ). any n (λ j. not (is_sample (entry xs j)))) (omega arith)
+tried-all xs j any' l a b q =
+    let all : j ≡ lanes = omega (arith, length-take-le lanes xs l) in
+    q ∙ ap (λ (n : ℕ). any n (λ j. not (is_sample (entry xs j)))) all

@@ -7,10 +7,8 @@ use Rattle.laws.specs.Lists.{upto}
 use Rattle.laws.specs.Lay.{lay}
 use Rattle.laws.specs.Outcome.{Outcome, refused, gives, refuse, ◌>>◌, mapped, laid, ends-refused, ends-given}
 use Rattle.fields.specs.Limits.{outside, within}
-use Rattle.fields.specs.Refusal.{number_of}
 use Rattle.lanes.specs.Slicing.{lanes}
 use Rattle.combining.specs.Combination.{most_multiplier, result_at, unsound, Samples, sound_samples}
-use Rattle.combining.specs.declared.Combined.{Combined}
 
 -- whether a multiplier is outside 1 to 1,000
 abbrev pub unfit : ℕ → ℕ → Bool
@@ -32,11 +30,6 @@ combine_of first second x1 x2 x3 x4 room = do
   refuse 13 (short (length x1) (length x2) (length x3) (length x4) room)
   refuse 5 (any_unsound x1 x2 x3 x4)
   gives (upto lanes (result_at first second x1 x2 x3 x4))
-
--- the answer's cases in the documents' numbers
-abbrev pub combined : Combined → Outcome (Unit {0})
-combined (Combined.Refused why) = refused (number_of why)
-combined Combined.All = gives tt
 
 -- ---- what passed says
 pub fit : (first second : ℕ) → unfit first second ≡ false → (first ≤ most_multiplier) × (second ≤ most_multiplier)

@@ -9,10 +9,11 @@ ghost use Rattle.std.specs.Prelude.{◌≡◌, cond, not, ◌≤◌, pos, nat_ab
 ghost use Rattle.laws.specs.Lists.{upto};
 ghost use Rattle.laws.specs.Lay.{lay};
 ghost use Rattle.laws.specs.Outcome.{laid, mapped};
+ghost use Rattle.fields.specs.Refusal.{answered};
 ghost use Rattle.lanes.specs.Slicing.{lanes};
 ghost use Rattle.combining.specs.Combination.{is_signed_miss, is_sample, most_multiplier, plus_times, result_at, result_of};
 ghost use Rattle.combining.specs.Combination.{Samples, SmallValue, unsound, value_of};
-ghost use Rattle.combining.specs.Combining.{combine_of, combined, short};
+ghost use Rattle.combining.specs.Combining.{any_unsound, combine_of, short, unfit};
 
 use fields::{Refusal, outside};
 use lanes::{LANES, SIGNED_MISS};
@@ -25,13 +26,6 @@ pub const MULTIPLIER: usize = 1000;
 
 // The largest signed sample.
 const LARGEST: i16 = 127;
-
-// A refusal, or that the results of all lanes are laid down.
-#[derive(Clone, Copy)]
-pub enum Combined {
-    Refused(Refusal),
-    All,
-}
 
 // Whether an entry is a value.
 fn hits(x: i16) -> bool
@@ -100,36 +94,69 @@ fn unsound(x: &[i16]) -> bool
     ensures { result ≡ unsound x.now }
 {
     let mut any = false;
-    for j in 0..LANES {
-        any = !sound(x[j]) | any;
+    for entry in &x[..LANES] {
+        any |= !sound(*entry);
     }
     any
 }
 
-// Whether a list or the buffer for the results is under 64.
-fn short(x1: usize, x2: usize, x3: usize, x4: usize, results: usize) -> bool
-    ensures { result ≡ short x1 x2 x3 x4 results }
-{
-    (x1 < LANES) | (x2 < LANES) | (x3 < LANES) | (x4 < LANES) | (results < LANES)
-}
-
-// Lays the 64 results down.
-fn fill(
-    x1: &[i16],
-    x2: &[i16],
-    x3: &[i16],
-    x4: &[i16],
+// Four lists and the multipliers with which they are combined.
+#[derive(Clone, Copy)]
+struct Four<'a> {
+    x1: &'a [i16],
+    x2: &'a [i16],
+    x3: &'a [i16],
+    x4: &'a [i16],
     first: u32,
     second: u32,
-    results: &mut [i32],
-)
-    requires limits { (first ≤ most_multiplier) × (second ≤ most_multiplier) × (lanes ≤ length results.old) }
-    requires samples { Samples x1.now × Samples x2.now × Samples x3.now × Samples x4.now }
-    ensures { let xs = upto lanes (result_at first second x1.now x2.now x3.now x4.now) in
-        results.new ≡ lay xs results.old }
-{
-    for lane in 0..LANES {
-        results[lane] = result(first, second, x1[lane], x2[lane], x3[lane], x4[lane]);
+}
+
+impl Four<'_> {
+    // Whether a multiplier is outside 1 to 1,000.
+    fn unfit(&self) -> bool
+        ensures { result ≡ unfit self.now.first self.now.second }
+    {
+        outside(MULTIPLIER, self.first as usize) | outside(MULTIPLIER, self.second as usize)
+    }
+
+    // Whether a list or the buffer for the results is under 64.
+    fn short(&self, room: usize) -> bool
+        ensures { result ≡ short (length self.now.x1.now) (length self.now.x2.now) (length self.now.x3.now) (length self.now.x4.now) room }
+    {
+        (self.x1.len() < LANES)
+            | (self.x2.len() < LANES)
+            | (self.x3.len() < LANES)
+            | (self.x4.len() < LANES)
+            | (room < LANES)
+    }
+
+    // Whether an entry of a list is neither a miss nor from -127 to 127.
+    fn unsound(&self) -> bool
+        requires { (lanes ≤ length self.now.x1.now) × (lanes ≤ length self.now.x2.now) ×
+            (lanes ≤ length self.now.x3.now) × (lanes ≤ length self.now.x4.now) }
+        ensures { result ≡ any_unsound self.now.x1.now self.now.x2.now self.now.x3.now self.now.x4.now }
+    {
+        unsound(self.x1) | unsound(self.x2) | unsound(self.x3) | unsound(self.x4)
+    }
+
+    // Lays the 64 results down. One index serves all five lists.
+    fn fill(&self, results: &mut [i32])
+        requires limits { (self.now.first ≤ most_multiplier) × (self.now.second ≤ most_multiplier) × (lanes ≤ length results.old) }
+        requires samples { Samples self.now.x1.now × Samples self.now.x2.now × Samples self.now.x3.now × Samples self.now.x4.now }
+        ensures { let four = self.now in
+            let xs = upto lanes (result_at four.first four.second four.x1.now four.x2.now four.x3.now four.x4.now) in
+            results.new ≡ lay xs results.old }
+    {
+        for lane in 0..LANES {
+            results[lane] = result(
+                self.first,
+                self.second,
+                self.x1[lane],
+                self.x2[lane],
+                self.x3[lane],
+                self.x4[lane],
+            );
+        }
     }
 }
 
@@ -144,20 +171,28 @@ pub fn combine(
     first: u32,
     second: u32,
     results: &mut [i32],
-) -> Combined
+) -> Result<(), Refusal>
     ensures { let room = length results.old in
         let o = combine_of first second x1.now x2.now x3.now x4.now room in
-        (combined result ≡ mapped (λ xs. tt) o) × (results.new ≡ lay (laid (λ xs. xs) o) results.old) }
+        (answered result ≡ mapped (λ xs. tt) o) × (results.new ≡ lay (laid (λ xs. xs) o) results.old) }
 {
-    if outside(MULTIPLIER, first as usize) | outside(MULTIPLIER, second as usize) {
-        return Combined::Refused(Refusal::Multiplier);
+    let four = Four {
+        x1,
+        x2,
+        x3,
+        x4,
+        first,
+        second,
+    };
+    if four.unfit() {
+        return Err(Refusal::Multiplier);
     }
-    if short(x1.len(), x2.len(), x3.len(), x4.len(), results.len()) {
-        return Combined::Refused(Refusal::Buffer);
+    if four.short(results.len()) {
+        return Err(Refusal::Buffer);
     }
-    if unsound(x1) | unsound(x2) | unsound(x3) | unsound(x4) {
-        return Combined::Refused(Refusal::Bit);
+    if four.unsound() {
+        return Err(Refusal::Bit);
     }
-    fill(x1, x2, x3, x4, first, second, results);
-    Combined::All
+    four.fill(results);
+    Ok(())
 }

@@ -13,9 +13,7 @@ use Rattle.laws.specs.Outcome.{gives, gives_inj}
 use Rattle.files.specs.Matrix.{Matrix, Accepted, bit}
 use Rattle.programs.specs.declared.description.Instruction.{Instruction}
 use Rattle.programs.specs.declared.description.Instruction.TheVariants.{Ones, Zero, Output}
-use Rattle.walk.specs.Walk.{Place, left, Answer, sample, missed, answer_of, drawn}
-use Rattle.walk.specs.declared.Drawn.{Drawn}
-use Rattle.walk.specs.declared.Drawn.TheVariants.{Hit as hit, Miss as miss}
+use Rattle.walk.specs.Walk.{Place, Drawn, hit, miss, left, Answer, sample, missed, answer_of, drawn}
 use Rattle.machine.specs.Meaning.{Gates, bit_gates, State, exec, exec_append}
 use Rattle.machine.specs.Runs.{Ended, start_on}
 use Rattle.machine.specs.Resuming.{whole_run}

@@ -4,7 +4,6 @@ use Prim.Native.Nat.{ℕ, suc, ◌+◌, ◌*◌, ◌-◌, ◌^◌, ◌≤◌, �
 use Rattle.std.specs.Prelude.{◌≡◌, refl, length}
 use Rattle.std.proofs.Common.{sym, ap, ◌∙◌, mul-le-mul, add-one, length-append}
 use mathlib.Core.List.{List, [], ◌++◌, append_assoc, append-nil}
-use Rattle.std.proofs.Math.Nat.{sub-zero}
 use native.Mathlib.Omega.{arith}
 use Rattle.std.specs.Int.Count as Count
 use Rattle.laws.specs.Sums.{sum_to, sum_more}
@@ -149,47 +148,43 @@ pub columns-done : {bit : ℕ → ℕ → ℕ} {m n c h count : ℕ} → n ≤ c
 columns-done {bit} {m} {n} {c} {count = count} l s =
     reached (λ x. count ≡ length (blocks x (column (row_bits m) m bit))) c n s.passed l s.is
 
--- ---- a loop over the rows of a column, from m - 1 down: all have room, i of them are passed, j of them set
-pub record Rows (k m : ℕ) (bits : ℕ → ℕ) (at : ℕ) (buf : List ℕ) (i j : ℕ) (now : List ℕ) (to : ℕ) : Type 0 where
-  pub few : i ≤ m
-  pub fewer : j ≤ i
+-- ---- a loop over the rows of a column, from m - 1 down: all have room, v of them are ahead, and of those passed j are set
+pub record Rows (k m : ℕ) (bits : ℕ → ℕ) (at : ℕ) (buf : List ℕ) (v j : ℕ) (now : List ℕ) (to : ℕ) : Type 0 where
+  pub few : v + j ≤ m
   pub space : Space at (marks k m bits m 0) buf
   pub done : List Instruction
-  pub is : marks k m bits m 0 ≡ done ++ marks k m bits (m - i) j
+  pub is : marks k m bits m 0 ≡ done ++ marks k m bits v j
   pub so_far : Emitted at done buf now to
 
-pub rows_none : {k m : ℕ} {bits : ℕ → ℕ} {at : ℕ} {buf : List ℕ} → Space at (marks k m bits m 0) buf → Rows k m bits at buf 0 0 buf at
-rows_none {m = m} s =
-    record { few = omega arith; fewer = omega arith; space = s; done = []; is = rw (sub-zero m); so_far = emitted_none s }
+pub rows_none : {k m : ℕ} {bits : ℕ → ℕ} {at : ℕ} {buf : List ℕ} → Space at (marks k m bits m 0) buf → Rows k m bits at buf m 0 buf at
+rows_none s = record { few = omega arith; space = s; done = []; is = refl; so_far = emitted_none s }
 
-module _ {k m : ℕ} {bits : ℕ → ℕ} {at i j to : ℕ} {buf now : List ℕ} (r : Rows k m bits at buf i j now to) where
-  pub rows-done : m ≤ i → Emitted at (marks k m bits m 0) buf now to
+module _ {k m : ℕ} {bits : ℕ → ℕ} {at v j to : ℕ} {buf now : List ℕ} (r : Rows k m bits at buf v j now to) where
+  pub rows-done : v ≤ 0 → Emitted at (marks k m bits m 0) buf now to
   unfolding marks
   rows-done h =
-      let z : m - i ≡ 0 = omega arith in
+      let z : v ≡ 0 = omega arith in
       let all : marks k m bits m 0 ≡ r.done = r.is ∙ rw (z, append-nil r.done) in
       rw all r.so_far
 
-  -- the next row, with j set rows met before it
-  module _ {b : ℕ} (h : i < m) (e : b ≡ bits (m - 1 - i)) (l : b < 2) where
-    row_is : marks k m bits m 0 ≡ r.done ++ (if_set b (mark k m (m - 1 - i) j) ++ marks k m bits (m - (i + 1)) (j + b))
+  -- the next row w, with j set rows met before it
+  module _ {w b : ℕ} (h : w + 1 ≡ v) (e : b ≡ bits w) (l : b < 2) where
+    row_is : marks k m bits m 0 ≡ r.done ++ (if_set b (mark k m w j) ++ marks k m bits w (j + b))
     unfolding marks
     row_is =
-        let p : m - i ≡ suc (m - 1 - i) = omega arith in
-        let q : m - (i + 1) ≡ m - 1 - i = omega arith in
-        r.is ∙ rw (p, q, e)
+        let p : v ≡ suc w = omega arith in
+        rw e (r.is ∙ ap (λ (x : ℕ). r.done ++ marks k m bits x j) p)
 
-    pub row-space : Space to (if_set b (mark k m (m - 1 - i) j)) now
+    pub row-space : Space to (if_set b (mark k m w j)) now
     row-space = space-first _ _ (space-next r.done _ (rw row_is at r.space) r.so_far)
 
-    pub row_more : {now' : List ℕ} {next : ℕ} → Emitted to (if_set b (mark k m (m - 1 - i) j)) now now' next →
-        Rows k m bits at buf (i + 1) (j + b) now' next
-    row_more s =
-        record {
-          few = omega arith;
-          fewer = omega (arith, r.fewer);
+    pub row_more : {v' next : ℕ} {now' : List ℕ} → v' ≡ w → Emitted to (if_set b (mark k m w j)) now now' next →
+        Rows k m bits at buf v' (j + b) now' next
+    row_more q s =
+        rw q (record {
+          few = omega (arith, r.few);
           space = r.space;
-          done = r.done ++ if_set b (mark k m (m - 1 - i) j);
+          done = r.done ++ if_set b (mark k m w j);
           is = row_is ∙ sym (append_assoc r.done _ _);
           so_far = emitted_after r.so_far s;
-        }
+        })

@@ -6,9 +6,7 @@ use Rattle.std.proofs.Common.{◌∙◌}
 use Rattle.std.proofs.Math.Nat.{min-zero}
 use native.Mathlib.Omega.{arith}
 use Rattle.laws.specs.Lists.{upto, from, upto_from}
-use Rattle.walk.specs.Walk.{Place, found, left, Answer, sample, missed, answer_of, at, scan, then, walk}
-use Rattle.walk.specs.declared.Drawn.{Drawn}
-use Rattle.walk.specs.declared.Drawn.TheVariants.{Miss as miss}
+use Rattle.walk.specs.Walk.{Place, Drawn, miss, found, left, Answer, sample, missed, answer_of, at, scan, then, walk}
 use Rattle.walk.specs.Steps.{Below, scan_below}
 
 -- ---- what is told, bit by bit

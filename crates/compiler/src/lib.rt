@@ -8,6 +8,7 @@
 mod columns;
 mod parts;
 mod registers;
+mod rows;
 mod sizes;
 mod translating;
 

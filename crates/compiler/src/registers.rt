@@ -15,16 +15,25 @@ pub(crate) fn reg_v(t: usize) -> u16
     (3 + t) as u16
 }
 
-pub(crate) fn reg_x(k: usize, i: usize) -> u16
-    requires { reg_x k i < 65536 }
-    ensures { result ≡ reg_x k i }
-{
-    (3 + k + i) as u16
+// What the registers of a program depend on: the k bits that write a row, and the m rows.
+#[derive(Clone, Copy)]
+pub(crate) struct Layout {
+    pub k: usize,
+    pub m: usize,
 }
 
-pub(crate) fn reg_y(k: usize, m: usize, j: usize) -> u16
-    requires { reg_y k m j < 65536 }
-    ensures { result ≡ reg_y k m j }
-{
-    (3 + k + m + j) as u16
+impl Layout {
+    pub(crate) fn reg_x(self, i: usize) -> u16
+        requires { reg_x self.k i < 65536 }
+        ensures { result ≡ reg_x self.k i }
+    {
+        (3 + self.k + i) as u16
+    }
+
+    pub(crate) fn reg_y(self, j: usize) -> u16
+        requires { reg_y self.k self.m j < 65536 }
+        ensures { result ≡ reg_y self.k self.m j }
+    {
+        (3 + self.k + self.m + j) as u16
+    }
 }

@@ -6,9 +6,8 @@ ghost use Rattle.laws.specs.Outcome.{laid};
 ghost use Rattle.drawing.specs.Drawing.{draw_of, draw_signed_of};
 ghost use Rattle.corkhollow.specs.Calls.{returned};
 
+use crate::telling::number;
 use drawing::{draw, draw_signed};
-use fields::number;
-use lanes::Sampled;
 
 // Draws 64 samples from a program and 64 strings.
 #[unsafe(no_mangle)]
@@ -17,10 +16,7 @@ pub extern "C" fn corkhollow_draw(program: &[u8], strings: &[u8], samples: &mut 
         (result ≡ returned o) ×
         (samples.new ≡ lay (laid (λ xs. xs) o) samples.old) }
 {
-    match draw(program, strings, samples) {
-        Sampled::Refused(why) => number(why),
-        Sampled::All => 0,
-    }
+    number(draw(program, strings, samples))
 }
 
 // Draws 64 signed samples, with a sign word.
@@ -35,8 +31,5 @@ pub extern "C" fn corkhollow_draw_signed(
         (result ≡ returned o) ×
         (samples.new ≡ lay (laid (λ xs. xs) o) samples.old) }
 {
-    match draw_signed(program, strings, sign, samples) {
-        Sampled::Refused(why) => number(why),
-        Sampled::All => 0,
-    }
+    number(draw_signed(program, strings, sign, samples))
 }

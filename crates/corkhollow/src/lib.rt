@@ -1,8 +1,9 @@
 // The functions for C (include/corkhollow.h), one exported function an operation.
 //
 // Every function takes any content and any length, and returns 0 or the number of a refusal. Its contract cites the definition of the
-// operation that it wraps, through specs/Calls.antt.
-#![tactic(auto)]
+// operation that it wraps, through specs/Calls.antt. Parameters that travel together stay apart, and the contracts repeat what is returned:
+// include/corkhollow.h has each number by itself, and each function under its own name, also where two differ in an operation alone.
+#![tactic(auto, using(crate::specs::Telling::returned_part, crate::specs::Telling::told_part))]
 
 mod draws;
 mod matrices;
@@ -11,6 +12,7 @@ mod runs;
 mod samples;
 mod signed;
 mod tables;
+mod telling;
 
 pub use draws::{corkhollow_draw, corkhollow_draw_signed};
 pub use matrices::{

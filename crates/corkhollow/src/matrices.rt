@@ -12,12 +12,9 @@ ghost use Rattle.spent.specs.Spent.{spent_of};
 ghost use Rattle.wanted.specs.Wanted.{string_bytes, string_found, wanted_of};
 ghost use Rattle.corkhollow.specs.Calls.{returned, told, usage_of};
 
-use fields::{Written, number};
-use files::Checked;
+use crate::telling::tell;
+use files::Sizes;
 use lanes::MISS;
-use spent::Total;
-use walk::Walked;
-use wanted::Wanted;
 use weights::Usage;
 
 // Reads a matrix file: its entries into `entries`, and its sizes.
@@ -35,15 +32,12 @@ pub extern "C" fn corkhollow_read(
         (columns.new ≡ told (λ M. M.columns) o columns.old) }
 {
     match files::read(file, entries) {
-        Checked::Refused(why) => number(why),
-        Checked::Matrix {
-            rows: m,
-            columns: n,
-        } => {
-            *rows = m;
-            *columns = n;
+        Ok(sizes) => {
+            *rows = sizes.rows;
+            *columns = sizes.columns;
             0
         }
+        Err(why) => u32::from(why),
     }
 }
 
@@ -61,16 +55,11 @@ pub extern "C" fn corkhollow_write(
         (file.new ≡ lay (laid (λ bytes. bytes) o) file.old) ×
         (length.new ≡ told ListN.length o length.old) }
 {
-    match files::write(rows, columns, entries, file) {
-        Written::Refused(why) => number(why),
-        Written::Length(n) => {
-            *length = n;
-            0
-        }
-    }
+    let sizes = Sizes { rows, columns };
+    tell(files::write(sizes, entries, file), length)
 }
 
-// The use that a flag stands for.
+// The use that a flag stands for. It stays, since `Usage::from(true)` would not say which one that is.
 fn usage_of(signed: bool) -> Usage
     ensures { result ≡ usage_of signed }
 {
@@ -91,13 +80,8 @@ pub extern "C" fn corkhollow_build(
         (file.new ≡ lay (laid (λ bytes. bytes) o) file.old) ×
         (length.new ≡ told ListN.length o length.old) }
 {
-    match weights::build(weights, columns, usage_of(signed), file) {
-        Written::Refused(why) => number(why),
-        Written::Length(built) => {
-            *length = built;
-            0
-        }
-    }
+    let built = weights::build(weights, columns, usage_of(signed), file);
+    tell(built, length)
 }
 
 // Walks a matrix file on a packed string: the row that is hit, or 255 for a miss, and the columns used.
@@ -114,17 +98,12 @@ pub extern "C" fn corkhollow_walk(
         (used.new ≡ told (λ w. w.used) o used.old) }
 {
     match walk::walk(file, string) {
-        Walked::Refused(why) => number(why),
-        Walked::Hit { row: v, used: n } => {
-            *row = v;
-            *used = n;
+        Ok(walk) => {
+            *row = walk.row.unwrap_or(MISS as usize);
+            *used = walk.used;
             0
         }
-        Walked::Miss { used: all } => {
-            *row = MISS as usize;
-            *used = all;
-            0
-        }
+        Err(why) => u32::from(why),
     }
 }
 
@@ -135,13 +114,7 @@ pub extern "C" fn corkhollow_spent(file: &[u8], strings: &[u8], total: &mut usiz
         (result ≡ returned o) ×
         (total.new ≡ told (λ n. n) o total.old) }
 {
-    match spent::spent(file, strings) {
-        Total::Refused(why) => number(why),
-        Total::Columns(n) => {
-            *total = n;
-            0
-        }
-    }
+    tell(spent::spent(file, strings), total)
 }
 
 // Lays the smallest string on which the walk of a matrix file hits a row into `string`, and tells whether there is one.
@@ -157,15 +130,5 @@ pub extern "C" fn corkhollow_string_for(
         (string.new ≡ lay (laid string_bytes o) string.old) ×
         (found.new ≡ told string_found o found.old) }
 {
-    match wanted::string_for(file, row, string) {
-        Wanted::Refused(why) => number(why),
-        Wanted::Found => {
-            *found = true;
-            0
-        }
-        Wanted::None => {
-            *found = false;
-            0
-        }
-    }
+    tell(wanted::string_for(file, row, string), found)
 }

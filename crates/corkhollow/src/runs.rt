@@ -4,14 +4,15 @@ ghost use Rattle.std.specs.Prelude.{◌≡◌};
 ghost use Rattle.std.proofs.Math.ListN;
 ghost use Rattle.laws.specs.Lay.{lay};
 ghost use Rattle.laws.specs.Outcome.{laid};
+ghost use Rattle.fields.specs.Refusal.{answered};
 ghost use Rattle.compiler.specs.Translation.{compile_of};
 ghost use Rattle.checker.specs.Checks.{check_of};
 ghost use Rattle.machine.specs.Runs.{resume_of, start_of};
 ghost use Rattle.corkhollow.specs.Calls.{count_of, finished_of, outputs_of, position_of, registers_of, returned, told};
 
-use fields::{Written, number};
-use machine::Ran;
-use programs::Checked;
+use crate::telling::tell;
+use fields::Refusal;
+use machine::Run;
 
 // Compiles a matrix file into `program`, and tells the program's length.
 #[unsafe(no_mangle)]
@@ -21,13 +22,7 @@ pub extern "C" fn corkhollow_compile(file: &[u8], program: &mut [u8], length: &m
         (program.new ≡ lay (laid (λ bytes. bytes) o) program.old) ×
         (length.new ≡ told ListN.length o length.old) }
 {
-    match compiler::compile(file, program) {
-        Written::Refused(why) => number(why),
-        Written::Length(n) => {
-            *length = n;
-            0
-        }
-    }
+    tell(compiler::compile(file, program), length)
 }
 
 // Checks a program file: its registers, inputs, outputs, rows and instructions.
@@ -49,8 +44,7 @@ pub extern "C" fn corkhollow_check(
         (count.new ≡ told (λ c. c.program.count) o count.old) }
 {
     match checker::check(program) {
-        Checked::Refused(why) => number(why),
-        Checked::Program(p) => {
+        Ok(p) => {
             *registers = p.registers;
             *inputs = p.inputs;
             *outputs = p.outputs;
@@ -58,6 +52,32 @@ pub extern "C" fn corkhollow_check(
             *count = p.count;
             0
         }
+        Err(why) => u32::from(why),
+    }
+}
+
+// Tells how a run ended: the position reached, the instructions carried out, and whether it finished.
+#[tactic(auto, unfolding(crate::specs::Calls::returned, crate::specs::Calls::told))]
+fn tell_run(
+    answer: Result<Run, Refusal>,
+    position: &mut u32,
+    count: &mut u32,
+    finished: &mut bool,
+) -> u32
+    ensures { let o = answered answer in
+        (result ≡ returned o) ×
+        (position.new ≡ told (λ a. a.position) o position.old) ×
+        (count.new ≡ told (λ a. a.count) o count.old) ×
+        (finished.new ≡ told (λ a. a.finished) o finished.old) }
+{
+    match answer {
+        Ok(run) => {
+            *position = run.position;
+            *count = run.count;
+            *finished = run.finished;
+            0
+        }
+        Err(why) => u32::from(why),
     }
 }
 
@@ -81,15 +101,8 @@ pub extern "C" fn corkhollow_start(
         (count.new ≡ told count_of o count.old) ×
         (finished.new ≡ told finished_of o finished.old) }
 {
-    match machine::start(program, inputs, registers, outputs, budget) {
-        Ran::Refused(why) => number(why),
-        Ran::Done(run) => {
-            *position = run.position;
-            *count = run.count;
-            *finished = run.finished;
-            0
-        }
-    }
+    let answer = machine::start(program, inputs, registers, outputs, budget);
+    tell_run(answer, position, count, finished)
 }
 
 // Resumes a program at a position, with registers and outputs as they are lent; tells what a start tells.
@@ -113,13 +126,6 @@ pub extern "C" fn corkhollow_resume(
         (count.new ≡ told count_of o count.old) ×
         (finished.new ≡ told finished_of o finished.old) }
 {
-    match machine::resume(program, inputs, registers, outputs, position, budget) {
-        Ran::Refused(why) => number(why),
-        Ran::Done(rest) => {
-            *position_out = rest.position;
-            *count = rest.count;
-            *finished = rest.finished;
-            0
-        }
-    }
+    let answer = machine::resume(program, inputs, registers, outputs, position, budget);
+    tell_run(answer, position_out, count, finished)
 }

@@ -7,8 +7,7 @@ ghost use Rattle.lanes.specs.Slicing.{slice_of};
 ghost use Rattle.lanes.specs.Samples.{samples_of};
 ghost use Rattle.corkhollow.specs.Calls.{returned};
 
-use fields::number;
-use lanes::{Sampled, Sliced};
+use crate::telling::number;
 
 // Slices 64 packed strings into words.
 #[unsafe(no_mangle)]
@@ -17,10 +16,7 @@ pub extern "C" fn corkhollow_slice(columns: usize, strings: &[u8], words: &mut [
         (result ≡ returned o) ×
         (words.new ≡ lay (laid (λ xs. xs) o) words.old) }
 {
-    match lanes::slice(columns, strings, words) {
-        Sliced::Refused(why) => number(why),
-        Sliced::Words(_) => 0,
-    }
+    number(lanes::slice(columns, strings, words))
 }
 
 // Reads the samples of 64 lanes off output words, of so many rows.
@@ -30,8 +26,5 @@ pub extern "C" fn corkhollow_samples(rows: usize, outputs: &[u64], samples: &mut
         (result ≡ returned o) ×
         (samples.new ≡ lay (laid (λ xs. xs) o) samples.old) }
 {
-    match lanes::samples(rows, outputs, samples) {
-        Sampled::Refused(why) => number(why),
-        Sampled::All => 0,
-    }
+    number(lanes::samples(rows, outputs, samples))
 }

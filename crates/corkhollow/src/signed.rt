@@ -7,9 +7,8 @@ ghost use Rattle.lanes.specs.Samples.{signed_samples_of};
 ghost use Rattle.combining.specs.Combining.{combine_of};
 ghost use Rattle.corkhollow.specs.Calls.{returned};
 
-use combining::{Combined, combine};
-use fields::number;
-use lanes::Sampled;
+use crate::telling::number;
+use combining::combine;
 
 // Reads the signed samples of 64 lanes off output words, of so many rows, with a sign word.
 #[unsafe(no_mangle)]
@@ -23,10 +22,7 @@ pub extern "C" fn corkhollow_signed_samples(
         (result ≡ returned o) ×
         (samples.new ≡ lay (laid (λ xs. xs) o) samples.old) }
 {
-    match lanes::signed_samples(rows, outputs, sign, samples) {
-        Sampled::Refused(why) => number(why),
-        Sampled::All => 0,
-    }
+    number(lanes::signed_samples(rows, outputs, sign, samples))
 }
 
 // Combines four lists of 64 signed samples into 64 results.
@@ -45,8 +41,5 @@ pub extern "C" fn corkhollow_combine(
         (result ≡ returned o) ×
         (results.new ≡ lay (laid (λ xs. xs) o) results.old) }
 {
-    match combine(x1, x2, x3, x4, first, second, results) {
-        Combined::Refused(why) => number(why),
-        Combined::All => 0,
-    }
+    number(combine(x1, x2, x3, x4, first, second, results))
 }

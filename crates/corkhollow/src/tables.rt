@@ -8,8 +8,7 @@ ghost use Rattle.lanes.specs.Samples.{code};
 ghost use Rattle.cumulative.specs.Tables.{export_of, import_of, lookup_of};
 ghost use Rattle.corkhollow.specs.Calls.{returned, told};
 
-use cumulative::{Exported, Looked};
-use fields::{Written, number};
+use crate::telling::tell;
 use lanes::MISS;
 
 // Imports a cumulative table: writes the file of its matrix into `file`, and tells its length.
@@ -25,13 +24,7 @@ pub extern "C" fn corkhollow_import(
         (file.new ≡ lay (laid (λ bytes. bytes) o) file.old) ×
         (length.new ≡ told ListN.length o length.old) }
 {
-    match cumulative::import(table, columns, file) {
-        Written::Refused(why) => number(why),
-        Written::Length(n) => {
-            *length = n;
-            0
-        }
-    }
+    tell(cumulative::import(table, columns, file), length)
 }
 
 // Exports the table of a matrix file into `table`, and tells how many numbers it has, and n.
@@ -49,15 +42,12 @@ pub extern "C" fn corkhollow_export(
         (columns.new ≡ told (λ t. t.columns) o columns.old) }
 {
     match cumulative::export(file, table) {
-        Exported::Refused(why) => number(why),
-        Exported::Table {
-            numbers: k,
-            columns: n,
-        } => {
-            *numbers = k;
-            *columns = n;
+        Ok(extent) => {
+            *numbers = extent.numbers;
+            *columns = extent.columns;
             0
         }
+        Err(why) => u32::from(why),
     }
 }
 
@@ -74,14 +64,10 @@ pub extern "C" fn corkhollow_lookup(
         (sample.new ≡ told code o sample.old) }
 {
     match cumulative::lookup(table, columns, r) {
-        Looked::Refused(why) => number(why),
-        Looked::Sample(s) => {
-            *sample = s;
+        Ok(found) => {
+            *sample = found.unwrap_or(MISS as usize);
             0
         }
-        Looked::Miss => {
-            *sample = MISS as usize;
-            0
-        }
+        Err(why) => u32::from(why),
     }
 }

@@ -1,18 +1,23 @@
 -- Export: the ways through its checks, and the sums of rows that are packed in a file. Assumes nothing.
-use Rattle.std.specs.Prelude.{ℕ, ◌+◌, ◌*◌, ◌^◌, ◌≤◌, ◌<◌, ◌≡◌, List, ltb, drop}
+use Rattle.std.specs.Prelude.{ℕ, ◌+◌, ◌-◌, ◌*◌, ◌^◌, ◌≤◌, ◌<◌, ◌≡◌, List, [], ◌∷◌, ltb, length, set, take, drop}
 use Rattle.std.proofs.Math.Path.{ap, sym}
-use Rattle.std.proofs.Common.{◌∙◌, arith}
+use Rattle.std.proofs.Common.{◌∙◌, arith, length-drop, length-set, length-take-le}
 use borrow.Author.Tests.{lt-ltb, le-ltb, ltb-false}
 use Rattle.std.proofs.Math.Pow.{pow_mono}
 use Rattle.laws.specs.Sums.{sum_to, sum-eq}
 use Rattle.laws.specs.Digits.{number, number_shift}
-use Rattle.laws.specs.Lists.{upto, upto-eq, length-upto}
+use borrow.Rule.Slice.PartMut.{put_mid}
+use Rattle.std.proofs.Math.Seq.{drop-drop}
+use Rattle.laws.specs.Lists.{blocks, upto, upto-eq, length-upto, upto-split}
+use Rattle.laws.specs.Lay.{lay, lay_at, lay-is, lay_at-after, set_is}
 use Rattle.laws.specs.Outcome.{refused, gives, mapped, passed, gives_inj, mapped-gives, mapped-refused}
 use Rattle.fields.specs.Fields.{bit_of, width}
-use Rattle.files.specs.Matrix.{Matrix, Sizes, sizes, bit, p, total}
+use Rattle.files.specs.declared.headers.Sizes.{Sizes}
+use Rattle.files.specs.Matrix.{Matrix, sizes, bit, p, total}
 use Rattle.files.specs.Files.{matrix_of}
 use Rattle.files.specs.Checks.{matrix_read, unpacked_bit}
-use Rattle.cumulative.specs.Tables.{Table, Extent, extent, most_bits, sums, exported, export_under, export_of}
+use Rattle.cumulative.specs.declared.exporting.Extent.{Extent}
+use Rattle.cumulative.specs.Tables.{Table, extent, most_bits, sums, exported, export_under, export_of}
 
 -- row v of rows of n bits that are packed one after another, as a number
 unfoldable pub row_at : List ℕ → ℕ → ℕ → ℕ
@@ -22,6 +27,32 @@ row_at bytes n v = number (bit_of bytes (v * width n)) 0 n
 pub row-at : (bytes : List ℕ) (n v w x : ℕ) → w ≡ width n → x ≡ number (bit_of bytes (v * w)) 0 n → x ≡ row_at bytes n v
 unfolding row_at
 row-at bytes n v w x e q = q ∙ ap (λ (w : ℕ). number (bit_of bytes (v * w)) 0 n) e
+
+-- the part of a buffer behind its first number
+pub part_long : (m : ℕ) (buf : List ℕ) → m + 1 ≤ length buf → (x : ℕ) → length (take (m + 1 - 1) (drop 1 (set buf 0 x))) ≡ m
+part_long m buf h x =
+    omega (
+      arith,
+      length-take-le (m + 1 - 1) (drop 1 (set buf 0 x)) (omega (arith, length-drop 1 (set buf 0 x), length-set buf 0 x)),
+    )
+
+-- 0 first, and then the sums up to each row, over the front of a buffer
+pub sums_laid : (rows : ℕ → ℕ) (m : ℕ) (buf ys : List ℕ) → m + 1 ≤ length buf → ys ≡ upto m (λ v. sum_to (v + 1) rows) →
+    put_mid 1 (m + 1 - 1) (set buf 0 0) ys ≡ lay (upto (m + 1) (λ v. sum_to v rows)) buf
+unfolding sum_to upto blocks lay_at
+sums_laid rows m buf ys h q =
+    let sums : ℕ → ℕ = λ v. sum_to v rows in
+    let long : length ys ≡ m = ap length q ∙ length-upto m (λ v. sums (v + 1)) in
+    let front : m + 1 ≡ 1 + m = omega arith in
+    let size : m + 1 - 1 ≡ m = omega arith in
+    let all : upto (m + 1) sums ≡ 0 ∷ ys =
+    ap (λ (k : ℕ). upto k sums) front ∙
+    (upto-split 1 m sums ∙
+    ap (λ (l : List ℕ). 0 ∷ l)
+    (upto-eq m (λ v. sums (1 + v)) (λ v. sums (v + 1)) (λ v l. ap sums (omega arith)) ∙ sym q)) in
+    rw (all, size)
+    (rw (set_is 0 0 buf (omega arith))
+    (rw (← long, drop-drop (length ys) 1 (lay_at 0 (0 ∷ []) buf)) (lay_at-after 0 (0 ∷ []) ys buf (omega arith) ∙ lay-is (0 ∷ ys) buf)))
 
 -- and their table
 abbrev pub table_at : List ℕ → Sizes → Table

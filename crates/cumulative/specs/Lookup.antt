@@ -1,22 +1,56 @@
 -- Lookup: the s that it gives is the only one with T[s] < r and r ≤ T[s+1], and is found by counting. Assumes nothing.
 use Rattle.std.specs.Prelude.{ℕ, zero, suc, ◌+◌, ◌-◌, ◌^◌, ◌≤◌, ◌<◌, min, ◌≡◌, refl, Bool, true, false, cond, ◌&&◌, List, ◌↔◌, ◌⊎◌, eqb}
-use Rattle.std.specs.Prelude.{ltb, leb, length}
-use Rattle.std.proofs.Common.{sym, ap, ◌∙◌, subst, inl, inr, ⊎_elim, arith, add-one, eq-eqb, ne_eqb, lt-ltb, le-ltb, le-leb, ltb-true}
+use Rattle.std.specs.Bool.{then_some}
+use Rattle.std.specs.Prelude.{Option, [], ◌∷◌, ltb, leb, length, sum_by, drop}
+use Rattle.std.proofs.Common.{sym, ap, ◌∙◌, subst, inl, inr, ⊎_elim, arith, add-one, length-drop, eq-or-lt_of_le}
+use Rattle.std.proofs.Common.{eq-eqb, ne_eqb, lt-ltb, le-ltb, le-leb, ltb-true}
 use Rattle.std.proofs.Common.{leb-true}
 use Rattle.std.proofs.lemmas.Bool.{lt-leb}
 use mir.Val.{bool_byte}
 use Rattle.laws.specs.Tests.{never, both, lt-or_ge}
-use Rattle.laws.specs.Sums.{sum_to, sum-eq}
+use Rattle.laws.specs.Sums.{sum_to, sum-eq, sum-le}
 use Rattle.laws.specs.Outcome.{refused, gives, passed, then-gives, gives_inj}
 use Rattle.fields.specs.Limits.{outside, inside, within}
-use Rattle.walk.specs.Walk.{Answer, sample, missed}
+use Rattle.walk.specs.Walk.{Answer, sample, missed, row_answer}
 use Rattle.walk.specs.Strings.{one_if}
+use Rattle.walk.specs.Ranges.{sum_items}
 use Rattle.cumulative.specs.Tables.{sizes_unfit, entry, rows_of, last_of, numbers_of, holds, the_one, found, lookup_of}
 use Rattle.cumulative.specs.Taken.{Rising, Cumulative, later, taken_iff}
 
 -- how many numbers after the first are below r
 unfoldable pub below : List ℕ → ℕ → ℕ
 below T r = sum_to (rows_of T) (λ v. one_if (ltb (entry T (v + 1)) r))
+
+-- as the library's iterators add it up
+pub below_items : (T : List ℕ) (r : ℕ) → sum_by (λ x. one_if (ltb x r)) (drop 1 T) ≡ below T r
+unfolding below sum_to
+below_items [] r = refl
+below_items (x ∷ xs) r =
+    let rows : length (x ∷ xs) - 1 ≡ length xs = omega arith in
+    rw rows
+    (sum_items 0 (λ y. one_if (ltb y r)) xs ∙
+    sum-eq (length xs) (λ v. one_if (ltb (entry xs v) r)) (λ v. one_if (ltb (entry (x ∷ xs) (v + 1)) r))
+    (λ v l. ap (λ (k : ℕ). one_if (ltb (entry (x ∷ xs) k) r)) (sym (add-one v))))
+
+one-le : (b : Bool) → one_if b ≤ 1
+one-le true = omega arith
+one-le false = omega arith
+
+pub below_fits : (xs : List ℕ) (r : ℕ) → length xs < 2 ^ 64 → sum_by (λ x. one_if (ltb x r)) xs < 2 ^ 64
+below_fits xs r h =
+    omega (
+      arith,
+      sum_items 0 (λ x. one_if (ltb x r)) xs,
+      sum-le (length xs) 1 (λ i. one_if (ltb (entry xs i) r)) (λ i l. one-le (ltb (entry xs i) r)),
+    )
+
+below-le : (T : List ℕ) (r : ℕ) → below T r ≤ rows_of T
+unfolding below
+below-le T r =
+    omega (
+      arith,
+      sum-le (rows_of T) 1 (λ v. one_if (ltb (entry T (v + 1)) r)) (λ v l. one-le (ltb (entry T (v + 1)) r)),
+    )
 
 -- what is said of s: it is a row of the table, T[s] < r, and r ≤ T[s+1]
 pub record Holds (T : List ℕ) (r s : ℕ) : Type 0 where
@@ -195,11 +229,17 @@ module _ (T : List ℕ) (n r : ℕ) where
         by_count : lookup_of T n r ≡ gives (cond (eqb k (rows_of T)) missed (sample k))
         by_count = rw (q, lookup_passes e) (ap gives (found_below T n ((taken_iff T n).0 (a, sym e)) r (within (2 ^ n) r b).0))
 
-        pub lookup_miss : k ≡ rows_of T → lookup_of T n r ≡ gives missed
-        lookup_miss h = rw (by_count, eq-eqb k (rows_of T) h)
+        -- a miss where it is all of them, and otherwise the sample
+        told : k ≤ rows_of T → row_answer (then_some (ltb k (rows_of T)) k) ≡ cond (eqb k (rows_of T)) missed (sample k)
+        told h =
+            ⊎_elim (λ (i : k ≡ rows_of T). rw (le-ltb k (rows_of T) (omega arith), eq-eqb k (rows_of T) i))
+            (λ (l : k < rows_of T). rw (lt-ltb k (rows_of T) l, ne_eqb k (rows_of T) (λ i. absurd (omega arith))))
+            (eq-or-lt_of_le h)
 
-        pub lookup_sample : (k ≡ rows_of T → ⊥) → lookup_of T n r ≡ gives (sample k)
-        lookup_sample h = rw (by_count, ne_eqb k (rows_of T) h)
+        -- in the words of the code
+        pub lookup_counted : (o : Option ℕ) → o ≡ then_some (ltb k (length (drop 1 T))) k → gives (row_answer o) ≡ lookup_of T n r
+        lookup_counted o p =
+            rw (p, length-drop 1 T) (ap gives (told (omega (arith, q, below-le T r))) ∙ sym by_count)
 
   -- lookup takes exactly the cumulative tables, with a number from 1 to 2^n
   pub lookup_iff : (x : Answer) → (lookup_of T n r ≡ gives x) ↔ (Cumulative T n × (1 ≤ r) × (r ≤ 2 ^ n) × (found T r ≡ x))

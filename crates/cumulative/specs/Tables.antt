@@ -3,15 +3,12 @@ use Rattle.std.specs.Prelude.{ℕ, zero, suc, ◌+◌, ◌-◌, ◌^◌, Bool, n
 use Rattle.laws.specs.Sums.{sum_to, any}
 use Rattle.laws.specs.Digits.{digit}
 use Rattle.laws.specs.Lists.{upto}
-use Rattle.laws.specs.Outcome.{Outcome, refused, gives, refuse, ◌>>◌, ◌>>=◌}
-use Rattle.fields.specs.Refusal.{number_of}
+use Rattle.laws.specs.Outcome.{Outcome, gives, refuse, ◌>>◌, ◌>>=◌}
 use Rattle.fields.specs.Limits.{most_columns, outside}
 use Rattle.files.specs.Matrix.{Matrix, tabled, p}
 use Rattle.files.specs.Files.{file_length, matrix_file, matrix_under}
 use Rattle.walk.specs.Walk.{Answer, sample, missed}
-use Rattle.cumulative.specs.declared.tables.Tried.{Tried}
-use Rattle.cumulative.specs.declared.exporting.Exported.{Exported}
-use Rattle.cumulative.specs.declared.looking.Looked.{Looked}
+use Rattle.cumulative.specs.declared.exporting.Extent.{Extent}
 
 -- ---- tables
 -- 2 to 129 numbers, and n from 1 to 63
@@ -117,24 +114,6 @@ lookup_of T n r = do
   numbers_of T n
   gives (found T r)
 
--- ---- the answers' cases in the papers' numbers and values
-abbrev pub tried : Tried → Outcome (Unit {0})
-tried (Tried.Refused why) = refused (number_of why)
-tried Tried.Sound = gives tt
-
--- what is told of a table: how many numbers, and n
-pub record Extent : Type 0 where
-  pub numbers : ℕ
-  pub columns : ℕ
-
+-- ---- what is told of a table: how many numbers, and n
 abbrev pub extent : Table → Extent
 extent t = record { numbers = length t.numbers; columns = t.columns }
-
-abbrev pub exported_of : Exported → Outcome Extent
-exported_of (Exported.Refused why) = refused (number_of why)
-exported_of (Exported.Table k n) = gives (record { numbers = k; columns = n })
-
-abbrev pub looked_of : Looked → Outcome Answer
-looked_of (Looked.Refused why) = refused (number_of why)
-looked_of (Looked.Sample s) = gives (sample s)
-looked_of Looked.Miss = gives missed

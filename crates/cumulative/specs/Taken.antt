@@ -1,17 +1,25 @@
 -- Tables that pass the checks: what that says of their numbers, and which they are. Assumes nothing.
 use Prim.Native.Nat.{ℕ, zero, suc, ◌+◌, ◌^◌, ◌≤◌, ◌<◌}
-use Rattle.std.specs.Prelude.{◌≡◌, false, not, ◌||◌, List, ◌↔◌, length}
-use Rattle.std.proofs.Common.{⊎_elim, eq-or-lt_of_le, le_of_suc-le-suc}
+use Rattle.std.specs.Prelude.{◌≡◌, refl, Bool, true, false, not, ◌||◌, List, ◌↔◌, length}
+use Rattle.std.proofs.Common.{sym, ⊎_elim, eq-or-lt_of_le, le_of_suc-le-suc}
 use native.Mathlib.Omega.{arith}
 use Rattle.std.proofs.Math.Numerals.{add-one}
 use borrow.Author.Tests.{le-ltb, eq-eqb, ne_eqb, ltb-false, eqb-true, eqb-false, not-false}
 use Rattle.std.proofs.Math.Dec.{eqb, ltb}
 use Rattle.laws.specs.Tests.{neither}
-use Rattle.laws.specs.Sums.{sum_to, any-all, any_false}
+use Rattle.laws.specs.Sums.{sum_to, any, any_found, any-all, any_false}
 use Rattle.laws.specs.Outcome.{gives, refuse, passed, refuse-gives}
 use Rattle.fields.specs.Limits.{outside, inside, within}
 use Rattle.cumulative.specs.Tables.{sizes_unfit, most_numbers, most_bits, entry, rows_of, last_of, difference}
 use Rattle.cumulative.specs.Tables.{falls, uncumulative, fills, numbers_of}
+
+-- a test of any, by what the library's iterators say of its answer
+pub any_is : (n : ℕ) (t : ℕ → Bool) (r : Bool) → (r ≡ true → (k : ℕ) × (k < n) × (t k ≡ true)) →
+    (r ≡ false → (k : ℕ) → k < n → t k ≡ false) → r ≡ any n t
+any_is n t true f g =
+    let h = f refl in
+    sym (any_found n h.0 t h.1 h.2)
+any_is n t false f g = sym (any-all n t (g refl))
 
 -- no number is below the one before it
 pub record Rising (T : List ℕ) : Type 0 where

@@ -6,19 +6,20 @@ ghost use Rattle.laws.specs.Lists.{upto};
 ghost use Rattle.laws.specs.Lay.{lay};
 ghost use Rattle.laws.specs.Outcome.{laid, mapped};
 ghost use Rattle.fields.specs.Fields.{bit_of};
+ghost use Rattle.fields.specs.Refusal.{answered};
 ghost use Rattle.files.specs.Matrix.{most_rows};
-ghost use Rattle.cumulative.specs.Tables.{exported_of, export_of, extent, most_bits};
+ghost use Rattle.cumulative.specs.Tables.{export_of, extent, most_bits};
 ghost use Rattle.cumulative.specs.Exporting.{row_at};
 
 use crate::tables::BITS;
 use fields::{Refusal, bit, width};
-use files::{Checked, check};
+use files::{Sizes, check};
 
-// A refusal, or how many numbers are laid down, and n.
+// What is told of a table: how many numbers are laid down, and n.
 #[derive(Clone, Copy)]
-pub enum Exported {
-    Refused(Refusal),
-    Table { numbers: usize, columns: usize },
+pub struct Extent {
+    pub numbers: usize,
+    pub columns: usize,
 }
 
 // The n bits that are packed from byte `at` on, as a number.
@@ -33,40 +34,36 @@ fn number_at(bytes: &[u8], at: usize, n: usize) -> u64
     x
 }
 
-// Lays down the sums of the packed rows before each of the m rows, and of them all.
-fn add_up(bytes: &[u8], m: usize, n: usize, table: &mut [u64])
-    requires { (m ≤ most_rows) × (n ≤ most_bits) × (m + 1 ≤ length table.old) × (sum_to m (row_at bytes.now n) ≤ 2 ^ most_bits) }
-    ensures { table.new ≡ lay (upto (m + 1) (λ v. sum_to v (row_at bytes.now n))) table.old }
+// Fills `sums` with the sums of the packed rows up to each, from the first on.
+fn add_up(bytes: &[u8], n: usize, sums: &mut [u64])
+    requires { (length sums.old ≤ most_rows) × (n ≤ most_bits) × (sum_to (length sums.old) (row_at bytes.now n) ≤ 2 ^ most_bits) }
+    ensures { sums.new ≡ upto (length sums.old) (λ v. sum_to (v + 1) (row_at bytes.now n)) }
 {
     let w = width(n);
     let mut sum: u64 = 0;
-    for v in 0..m {
-        table[v] = sum;
+    for (v, to) in sums.iter_mut().enumerate() {
         sum += number_at(bytes, v * w, n);
+        *to = sum;
     }
-    table[m] = sum;
 }
 
 // Exports the table of a matrix file: lays its numbers, one more than rows, at the front of `table`, and answers how many they are and the
 // columns that they go with; or refusal 1 to 6 for the file, then 3 for more than 63 columns, then 13.
-pub fn export(file: &[u8], table: &mut [u64]) -> Exported
+pub fn export(file: &[u8], table: &mut [u64]) -> Result<Extent, Refusal>
     ensures { let o = export_of file.now (length table.old) in
-        (exported_of result ≡ mapped extent o) × (table.new ≡ lay (laid (λ t. t.numbers) o) table.old) }
+        (answered result ≡ mapped extent o) × (table.new ≡ lay (laid (λ t. t.numbers) o) table.old) }
 {
-    match check(file) {
-        Checked::Refused(why) => Exported::Refused(why),
-        Checked::Matrix { rows, columns } => {
-            if BITS < columns {
-                return Exported::Refused(Refusal::Size);
-            }
-            if table.len() < rows + 1 {
-                return Exported::Refused(Refusal::Buffer);
-            }
-            add_up(&file[8..], rows, columns, table);
-            Exported::Table {
-                numbers: rows + 1,
-                columns,
-            }
-        }
+    let Sizes { rows, columns } = check(file)?;
+    if BITS < columns {
+        return Err(Refusal::Size);
     }
+    if table.len() < rows + 1 {
+        return Err(Refusal::Buffer);
+    }
+    table[0] = 0;
+    add_up(&file[8..], columns, &mut table[1..rows + 1]);
+    Ok(Extent {
+        numbers: rows + 1,
+        columns,
+    })
 }

@@ -11,6 +11,6 @@ mod importing;
 mod looking;
 mod tables;
 
-pub use exporting::{Exported, export};
+pub use exporting::{Extent, export};
 pub use importing::import;
-pub use looking::{Looked, lookup};
+pub use looking::lookup;

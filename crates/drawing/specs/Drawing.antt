@@ -1,15 +1,14 @@
 -- Drawing in one call, beyond what 01 lists: a program is checked, 64 strings are sliced, the program is started on words of the engine's
 -- own, and its outputs are read, of as many rows as its header says (02, order 10). Assumes nothing.
-use Rattle.std.specs.Prelude.{ℕ, ◌≤◌, List, ltb, ℤ, replicate}
+use Rattle.std.specs.Prelude.{ℕ, List, length, ltb, ℤ, replicate}
 use Rattle.laws.specs.Outcome.{Outcome, refused, gives, refuse, ◌>>◌, ◌>>=◌}
 use Rattle.fields.specs.Limits.{most_columns}
-use Rattle.fields.specs.Refusal.{number_of}
-use Rattle.programs.specs.Limits.{most_inputs, most_outputs, most_instructions}
+use Rattle.programs.specs.Limits.{most_inputs, most_instructions}
 use Rattle.checker.specs.Checks.{check_under, check_of}
 use Rattle.machine.specs.Meaning.{word_gates}
 use Rattle.machine.specs.Runs.{start_under}
 use Rattle.lanes.specs.Slicing.{lanes, slice_under}
-use Rattle.lanes.specs.Samples.{samples_of, signed_samples_of}
+use Rattle.lanes.specs.Samples.{Coding, read_of, samples_of, signed_samples_of}
 use Rattle.drawing.specs.declared.Batch.{Batch}
 
 -- drawing into a buffer of `room` places, with a way of reading the outputs of so many rows, where at most `most` columns, `wide` inputs
@@ -27,6 +26,10 @@ drawn_under most wide long program strings room read = do
 abbrev pub drawn_with : {A : Type 0} → List ℕ → List ℕ → ℕ → (ℕ → List ℕ → Outcome A) → Outcome A
 drawn_with = drawn_under most_columns most_inputs most_instructions
 
+-- drawing with a way of writing what each lane gives, and a sign word
+abbrev pub drawn_by : {A : Type 0} → Coding A → List ℕ → List ℕ → ℕ → ℕ → Outcome (List A)
+drawn_by code program strings sign room = drawn_with program strings room (λ rows outputs. read_of code rows outputs sign room)
+
 -- drawing samples, and signed samples with a sign word
 abbrev pub draw_of : List ℕ → List ℕ → ℕ → Outcome (List ℕ)
 draw_of program strings room = drawn_with program strings room (λ rows outputs. samples_of rows outputs room)
@@ -42,6 +45,10 @@ pub record Left : Type 0 where
 abbrev pub left : ℕ → List ℕ → Left
 left rows outputs = record { rows = rows; outputs = outputs }
 
+-- and as the code has it: the rows, and how many outputs there are
+abbrev pub batched : Left → Batch
+batched l = record { rows = l.rows; outputs = length l.outputs }
+
 abbrev pub batch_of : List ℕ → List ℕ → ℕ → Outcome Left
 batch_of program strings room = drawn_with program strings room (λ rows outputs. gives (left rows outputs))
 
@@ -50,17 +57,3 @@ unfoldable pub after_own : List ℕ → ℕ → Outcome (Unit {0})
 after_own program n = do
   c ← check_of program
   refused n
-
--- ---- the answer's cases in 01's numbers: how many outputs there are, and the rows
-abbrev pub batched : Batch → Outcome ℕ
-batched (Batch.Refused why) = refused (number_of why)
-batched (Batch.Outputs rows n) = gives n
-
-abbrev pub batched_rows : Batch → Outcome ℕ
-batched_rows (Batch.Refused why) = refused (number_of why)
-batched_rows (Batch.Outputs rows n) = gives rows
-
--- no more outputs than a program may have
-abbrev pub Few : Batch → Type 0
-Few (Batch.Refused why) = Unit {0}
-Few (Batch.Outputs rows n) = n ≤ most_outputs

@@ -9,8 +9,6 @@ use Rattle.laws.specs.Lay.{lay, length-lay, at_front, take-lay}
 use Rattle.laws.specs.Outcome.{Outcome, refused, gives, refuse, ◌>>=◌, mapped, laid, gives_inj, mapped-gives, mapped-refused, mapped-mapped}
 use Rattle.laws.specs.Outcome.{no_result, bind_is, bind_after, then-after, ends-refused}
 use Rattle.fields.specs.Fields.{width}
-use Rattle.fields.specs.Refusal.{number_of}
-use Rattle.fields.specs.declared.refusals.Refusal.{Refusal}
 use Rattle.programs.specs.Limits.{most_registers, most_inputs, most_outputs}
 use Rattle.programs.specs.Header.{header_of}
 use Rattle.programs.specs.Reading.{Within, within_means}
@@ -26,12 +24,15 @@ use Rattle.machine.proofs.Calls.{start_is}
 use Rattle.machine.specs.declared.runs.Run.{Run}
 use Rattle.lanes.specs.Slicing.{lanes, slice_under, slice_of, word_of}
 use Rattle.lanes.specs.Lanes.{cut}
-use Rattle.drawing.specs.Drawing.{drawn_under, drawn_with, Left, left, batch_of, after_own, batched, batched_rows, Few}
+use Rattle.drawing.specs.Drawing.{drawn_under, drawn_with, Left, left, batch_of, after_own, batched}
 use Rattle.drawing.specs.declared.Batch.{Batch}
 
 -- what a run leaves, of so many rows
 abbrev left_by : ℕ → Ended ℕ → Left
 left_by rows e = left rows e.state.outputs
+
+abbrev batch_with : ℕ → ℕ → Batch
+batch_with rows n = record { rows = rows; outputs = n }
 
 -- how many outputs were left
 abbrev many : Left → ℕ
@@ -143,11 +144,9 @@ laid-left rows (gives e) = refl
 module _ (program strings : List ℕ) (room : ℕ) where
   -- a batch that is refused tells it, and lays nothing down
   pub batch-refused : (n : ℕ) (outputs : List ℕ) → batch_of program strings room ≡ refused n →
-      (refused n ≡ mapped many (batch_of program strings room)) × (refused n ≡ mapped (λ l. l.rows) (batch_of program strings room)) ×
+      (refused n ≡ mapped batched (batch_of program strings room)) ×
       (outputs ≡ lay (laid (λ l. l.outputs) (batch_of program strings room)) outputs)
-  batch-refused n outputs e =
-      let ends = ends-refused many (λ (l : Left). l.outputs) n (batch_of program strings room) outputs e in
-      (ends.0, rw e, ends.1)
+  batch-refused n outputs e = ends-refused batched (λ (l : Left). l.outputs) n (batch_of program strings room) outputs e
 
   pub batch_headless : (k : ℕ) → refused k ≡ header_of program → batch_of program strings room ≡ refused k
   batch_headless k e =
@@ -229,36 +228,28 @@ module _ (program strings : List ℕ) (room : ℕ) where
         batch-is : batch_of program strings room ≡ mapped (left_by p.rows) ending
         batch-is = rw own_inputs (start_own (mapped-gives length slices m s).0 (mapped-gives length slices m s).1)
 
-        -- and has as many outputs as its header says
-        batch-counts : mapped many (batch_of program strings room) ≡ mapped (λ e. p.outputs) ending
+        -- and leaves as many outputs as its header says, of its rows
+        abbrev own : Batch
+        own = batch_with p.rows p.outputs
+
+        batch-counts : mapped batched (batch_of program strings room) ≡ mapped (λ e. own) ending
         batch-counts = by ending refl
           where
-            by : (o : Outcome (Ended ℕ)) → ending ≡ o → mapped many (batch_of program strings room) ≡ mapped (λ e. p.outputs) o
-            by (refused k) e = ap (mapped many) (batch-is ∙ ap (mapped (left_by p.rows)) e)
+            by : (o : Outcome (Ended ℕ)) → ending ≡ o → mapped batched (batch_of program strings room) ≡ mapped (λ e. own) o
+            by (refused k) e = ap (mapped batched) (batch-is ∙ ap (mapped (left_by p.rows)) e)
             by (gives x) e =
-                ap (mapped many) (batch-is ∙ ap (mapped (left_by p.rows)) e) ∙
-                ap gives (own_long (mapped-gives length slices m s).0 (mapped-gives length slices m s).1 x (rw own_inputs at e))
-
-        -- and its rows
-        batch-rows : mapped (λ l. l.rows) (batch_of program strings room) ≡ mapped (λ e. p.rows) ending
-        batch-rows =
-            ap (mapped (λ (l : Left). l.rows)) batch-is ∙
-            mapped-mapped (left_by p.rows) (λ (l : Left). l.rows) (λ (e : Ended ℕ). p.rows) ending (λ e. refl)
+                ap (mapped batched) (batch-is ∙ ap (mapped (left_by p.rows)) e) ∙
+                ap (λ (n : ℕ). gives (batch_with p.rows n))
+                (own_long (mapped-gives length slices m s).0 (mapped-gives length slices m s).1 x (rw own_inputs at e))
 
         -- so it ends, refused or done, as the start did
-        told : (n : ℕ) (a : Outcome Run) → a ≡ mapped (λ e. e.answer) ending → mapped (λ r. n) a ≡ mapped (λ e. n) ending
-        told n a e =
-            ap (mapped (λ (r : Run). n)) e ∙
-            mapped-mapped (λ (e : Ended ℕ). e.answer) (λ (r : Run). n) (λ (e : Ended ℕ). n) ending (λ e. refl)
-
         pub batch-ends : (outputs' : List ℕ) (a : Outcome Run) → a ≡ mapped (λ e. e.answer) ending →
             outputs' ≡ lay (laid (λ e. e.state.outputs) ending) outputs →
-            (mapped (λ r. p.outputs) a ≡ mapped many (batch_of program strings room)) ×
-            (mapped (λ r. p.rows) a ≡ mapped (λ l. l.rows) (batch_of program strings room)) ×
+            (mapped (λ r. own) a ≡ mapped batched (batch_of program strings room)) ×
             (outputs' ≡ lay (laid (λ l. l.outputs) (batch_of program strings room)) outputs)
         batch-ends outputs' a e l = (
-          told p.outputs a e ∙ sym batch-counts,
-          told p.rows a e ∙ sym batch-rows,
+          ap (mapped (λ (r : Run). own)) e ∙
+              mapped-mapped (λ (e : Ended ℕ). e.answer) (λ (r : Run). own) (λ (e : Ended ℕ). own) ending (λ e. refl) ∙ sym batch-counts,
           l ∙ ap (λ (xs : List ℕ). lay xs outputs) (sym (ap (laid (λ (l : Left). l.outputs)) batch-is ∙ laid-left p.rows ending)),
         )
 
@@ -289,31 +280,27 @@ read_front read o rows n l outputs blank e r q b =
 pub batch-few : (program : List ℕ) (p : Program) → gives p ≡ header_of program → p.outputs ≤ most_outputs
 batch-few program p head = (header-within program p (sym head)).few_outputs
 
-pub few_of : {x : Batch} {rows n : ℕ} → x ≡ Batch.Outputs rows n → Few x → n ≤ most_outputs
-few_of c e = rw c at e
-
-module _ (program strings : List ℕ) (room : ℕ) where
+module _ (program strings : List ℕ) (room : ℕ) {A : Type 0} (read : ℕ → List ℕ → Outcome (List A)) (samples : List A) where
   abbrev batch : Outcome Left
   batch = batch_of program strings room
 
-  module _ {A : Type 0} (read : ℕ → List ℕ → Outcome (List A)) (samples : List A) where
-    abbrev drawn : Outcome (List A)
-    drawn = drawn_with program strings room read
+  abbrev drawn : Outcome (List A)
+  drawn = drawn_with program strings room read
 
-    pub drawn-refused : {x : Batch} {why : Refusal} → x ≡ Batch.Refused why → batched x ≡ mapped many batch →
-        (refused (number_of why) ≡ mapped {B = Unit {0}} (λ xs. tt) drawn) × (samples ≡ lay (laid (λ xs. xs) drawn) samples)
-    drawn-refused {why = why} c e =
-        ends-refused {B = Unit {0}} (λ (xs : List A). tt) (λ (xs : List A). xs) (number_of why) drawn samples
-        (drawn-is program strings room read ∙ rw (mapped-refused many batch (number_of why) (rw c at e)))
+  pub drawn-refused : {n : ℕ} → refused n ≡ mapped batched batch →
+      (refused n ≡ mapped {B = Unit {0}} (λ xs. tt) drawn) × (samples ≡ lay (laid (λ xs. xs) drawn) samples)
+  drawn-refused {n} e =
+      ends-refused {B = Unit {0}} (λ (xs : List A). tt) (λ (xs : List A). xs) n drawn samples
+      (drawn-is program strings room read ∙ rw (mapped-refused batched batch n e))
 
-    -- what is read are the outputs of the batch, of its rows
-    pub drawn_read : {x : Batch} {rows n : ℕ} {outputs : List ℕ} (blank : List ℕ) {a : Outcome (Unit {0})} {samples' : List A} →
-        x ≡ Batch.Outputs rows n →
-        (batched x ≡ mapped many batch) × (batched_rows x ≡ mapped (λ l. l.rows) batch) ×
-        (outputs ≡ lay (laid (λ l. l.outputs) batch) blank) →
-        (a ≡ mapped (λ xs. tt) (read rows (take n outputs))) × (samples' ≡ lay (laid (λ xs. xs) (read rows (take n outputs))) samples) →
-        (a ≡ mapped (λ xs. tt) drawn) × (samples' ≡ lay (laid (λ xs. xs) drawn) samples)
-    drawn_read {rows = rows} {n = n} {outputs = outputs} blank c b r =
-        let (l, is, long) = mapped-gives many batch n (rw c at b.0) in
-        let own : l.rows ≡ rows = sym (gives_inj (rw (c, is) at b.1)) in
-        rw (drawn-is program strings room read ∙ read_front read batch rows n l outputs blank is own long b.2) r
+  -- what is read are the outputs of the batch, of its rows
+  pub drawn_read : {b : Batch} {outputs : List ℕ} (blank : List ℕ) {a : Outcome (Unit {0})} {samples' : List A} →
+      (gives b ≡ mapped batched batch) × (outputs ≡ lay (laid (λ l. l.outputs) batch) blank) →
+      (a ≡ mapped (λ xs. tt) (read b.rows (take b.outputs outputs))) ×
+      (samples' ≡ lay (laid (λ xs. xs) (read b.rows (take b.outputs outputs))) samples) →
+      (a ≡ mapped (λ xs. tt) drawn) × (samples' ≡ lay (laid (λ xs. xs) drawn) samples)
+  drawn_read {b} {outputs} blank r e =
+      let (l, is, same) = mapped-gives batched batch b r.0 in
+      let rows : l.rows ≡ b.rows = ap (λ (x : Batch). x.rows) same in
+      let long : many l ≡ b.outputs = ap (λ (x : Batch). x.outputs) same in
+      rw (drawn-is program strings room read ∙ read_front read batch b.rows b.outputs l outputs blank is rows long r.1) e

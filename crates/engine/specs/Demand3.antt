@@ -10,9 +10,7 @@ use Rattle.laws.specs.Outcome.{gives, gives_inj}
 use Rattle.files.specs.Matrix.{Matrix, p, total}
 use Rattle.files.specs.Files.{matrix_of}
 use Rattle.files.specs.RoundTrip.{read_accepted, read_write}
-use Rattle.walk.specs.Walk.{sample, drawn, answer_of, hits, misses}
-use Rattle.walk.specs.declared.Drawn.{Drawn}
-use Rattle.walk.specs.declared.Drawn.TheVariants.{Hit as hit, Miss as miss}
+use Rattle.walk.specs.Walk.{sample, drawn, answer_of, hits, misses, Drawn, hit, miss}
 use Rattle.walk.specs.Strings.{Bits, strings, count, count-eq}
 use Rattle.walk.specs.Theorems.{hits-row, misses-rest, hit-inside, equal_rows}
 use Rattle.lanes.specs.Slicing.{lanes}

@@ -14,10 +14,8 @@ use Rattle.machine.specs.Meaning.{word_gates, bit_gates, exec, exec_long}
 use Rattle.machine.specs.Runs.{Ended, start_of, start_on}
 use Rattle.machine.specs.LaneLaw.{lane, map_ended}
 use Rattle.machine.proofs.LaneLaw.{lane-start}
-use Rattle.walk.specs.Walk.{sample, drawn, answer_of, is_miss}
+use Rattle.walk.specs.Walk.{sample, drawn, answer_of, is_miss, Drawn, hit, miss}
 use Rattle.walk.specs.Theorems.{hit-inside}
-use Rattle.walk.specs.declared.Drawn.{Drawn}
-use Rattle.walk.specs.declared.Drawn.TheVariants.{Hit as hit, Miss as miss}
 use Rattle.lanes.specs.Samples.{lane_hits, spelled, lane_says, sample_of, code}
 use Rattle.lanes.specs.Lanes.{lane-same}
 use Rattle.programs.specs.Width.{row_bits}

@@ -20,9 +20,7 @@ use Rattle.laws.specs.Outcome.{Outcome, refused, gives, mapped, ◌>>=◌}
 use Rattle.files.specs.Matrix.{Matrix, Accepted, bit, p, total}
 use Rattle.files.specs.Files.{matrix_of}
 use Rattle.files.specs.RoundTrip.{read_accepted}
-use Rattle.walk.specs.Walk.{drawn, answer_of, hits, misses}
-use Rattle.walk.specs.declared.Drawn.{Drawn}
-use Rattle.walk.specs.declared.Drawn.TheVariants.{Hit as hit, Miss as miss}
+use Rattle.walk.specs.Walk.{drawn, answer_of, hits, misses, Drawn, hit, miss}
 use Rattle.walk.specs.Strings.{Bits, strings, strings-bits, strings-many, strings_once, over, one_if, count, over-append, over-map}
 use Rattle.walk.specs.Strings.{over-all, over_none, over-eq, over-bits, count-both}
 use Rattle.walk.specs.Theorems.{hit-inside, hits-row, misses-rest}

@@ -1,6 +1,6 @@
 -- 02, order 10: with any program and any words no sample at or above the rows of the header is given, and compiled programs, given their
 -- own rows, sample as they did without. Assumes nothing.
-use Rattle.std.specs.Prelude.{ℕ, ◌+◌, ◌^◌, ◌≤◌, ◌<◌, ◌≡◌, true, false, ◌⊎◌, ltb, ℤ, pos, nat_abs, get_or, take, replicate}
+use Rattle.std.specs.Prelude.{ℕ, ◌+◌, ◌^◌, ◌≤◌, ◌<◌, ◌≡◌, false, ◌⊎◌, ltb, ℤ, pos, nat_abs, get_or, take, replicate}
 use Rattle.std.proofs.Common.{sym, ◌∙◌, arith, eq-eqb, ne_eqb, le-ltb}
 use Rattle.std.proofs.Math.Path.{ap}
 use mathlib.Core.List.{List}

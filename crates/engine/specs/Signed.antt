@@ -13,9 +13,7 @@ use Rattle.weights.specs.Uses.{counted-zero, counted_twice, sum-plain, sum-signe
 use Rattle.weights.specs.Building.{counted-le, built_largest, build_iff, built_is}
 use Rattle.weights.specs.declared.building.Usage.{Usage}
 use Rattle.weights.specs.declared.building.Usage.TheVariants.{Plain, Signed}
-use Rattle.walk.specs.Walk.{drawn, answer_of}
-use Rattle.walk.specs.declared.Drawn.{Drawn}
-use Rattle.walk.specs.declared.Drawn.TheVariants.{Hit as hit, Miss as miss}
+use Rattle.walk.specs.Walk.{drawn, answer_of, Drawn, hit, miss}
 use Rattle.walk.specs.Strings.{over, over-upto}
 use Rattle.walk.specs.Theorems.{hit-inside}
 use Rattle.lanes.specs.Samples.{signed_code}

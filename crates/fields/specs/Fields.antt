@@ -1,14 +1,15 @@
 -- 01, "Files": 16-bit fields, lowest byte first, and bits packed into bytes, the first in the highest bit. Assumes nothing.
-use Prim.Native.Nat.{ℕ, ◌+◌, ◌-◌, ◌*◌, ◌/◌, ◌%◌, ◌^◌, ◌≤◌, ◌<◌}
+use Prim.Native.Nat.{ℕ, suc, ◌+◌, ◌-◌, ◌*◌, ◌/◌, ◌%◌, ◌^◌, ◌≤◌, ◌<◌}
 use Rattle.std.specs.Prelude.{◌≡◌, Bool, false, not, cond, List, [], ◌∷◌, eqb, ltb, length, get_or, take, set}
-use Rattle.std.proofs.Common.{ap, ◌∙◌, subst, ⊎_elim, lt-ltb, le-ltb, eq-eqb, eqb-true, length-set, pow_pos, shl_exact, get_or-take}
-use Rattle.std.proofs.Math.Nat.{zero-div, one-mul}
+use Rattle.std.proofs.Common.{ap, sym, ◌∙◌, subst, ⊎_elim, lt-ltb, le-ltb, eq-eqb, eqb-true, length-set, pow_pos, pow_mono, add-one}
+use Rattle.std.proofs.Common.{shl_exact, get_or-take}
+use Rattle.std.proofs.Math.Nat.{zero-div, one-mul, pow-succ'}
 use Rattle.std.proofs.lemmas.Bool.{not-false}
 use native.Mathlib.Omega.{arith}
 use Rattle.std.specs.Int.Bits.{bit_and, and_mask}
 use Rattle.std.proofs.Math.ListN.{get_or-eq_default}
 use Rattle.laws.specs.Tests.{lt-or_ge}
-use Rattle.laws.specs.Digits.{number, digit, digit-le, number_shift, number-zero, zero_digits}
+use Rattle.laws.specs.Digits.{number, digit, digit-le, number_more, number_shift, number-zero, zero_digits}
 use Rattle.laws.proofs.Digits.{digit-number, low_digits}
 use Rattle.laws.specs.Lists.{blocks, upto, upto-eq, get_d_blocks, get_d_upto, length-upto}
 use Rattle.laws.specs.Lay.{lay_at, lay_at-after, set_is}
@@ -44,6 +45,14 @@ padded n f i = cond (ltb i n) (f i) 0
 -- the bits f 0, .., f (n - 1) in width n bytes, the spare low bits of the last 0
 unfoldable pub packed : ℕ → (ℕ → ℕ) → List ℕ
 packed n f = upto (width n) (λ q. number (padded n f) (8 * q) 8)
+
+-- what is asked of a closure that gives n bits, and that it gives f 0, .., f (n - 1)
+pub record GivesBits (pre : ℕ → Type 0) (post : ℕ → ℕ → Type 0) (n : ℕ) : Type 0 where
+  pub callable : (i : ℕ) → i < n → pre i
+  pub small : (i r : ℕ) → i < n → post i r → r ≤ 1
+
+abbrev pub Gives : (ℕ → ℕ → Type 0) → ℕ → (ℕ → ℕ) → Type 0
+Gives post n f = (i r : ℕ) → i < n → post i r → r ≡ f i
 
 -- whether a spare bit is set behind the n packed bits that begin at byte `at`: a bit from n on in the last of their bytes
 unfoldable pub spare : List ℕ → ℕ → ℕ → Bool
@@ -155,6 +164,17 @@ packed-eq n f g e =
 pub length-packed : (n : ℕ) (f : ℕ → ℕ) → length (packed n f) ≡ width n
 unfolding packed
 length-packed n f = length-upto (width n) (λ q. number (padded n f) (8 * q) 8)
+
+-- ---- bits that a closure gives, packed byte by byte: a byte has room for one bit more, and its number goes on with it
+module _ (t byte b : ℕ) where
+  pub bit-room : t < 8 → byte < 2 ^ t → b ≤ 1 → 2 * byte + b < 2 ^ 8
+  bit-room h l k = omega (arith, pow_mono {i = suc t} {j = 8} h, pow-succ' 2 t)
+
+  pub bit-small : byte < 2 ^ t → b ≤ 1 → 2 * byte + b < 2 ^ (t + 1)
+  bit-small l k = rw (add-one t, pow-succ' 2 t) (omega arith)
+
+  pub bit-next : (f : ℕ → ℕ) (c : ℕ) → b ≡ f (c + t) → byte ≡ number f c t → 2 * byte + b ≡ number f c (t + 1)
+  bit-next f c e l = rw (e, l) (sym (number_more f c t))
 
 -- ---- packed rows, bit by bit
 -- bit i of packed row v: the row's bit below n, and 0 in the spare bits

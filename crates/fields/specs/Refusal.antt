@@ -1,11 +1,11 @@
--- 01, "The engine's no", and 02: the number that each refusal returns, and the answer of what writes. Assumes nothing.
-use Rattle.std.specs.Prelude.{ℕ}
+-- 01, "The engine's no", and 02: the number that each refusal returns, and an answer in these numbers. Assumes nothing.
+use Rattle.std.specs.Prelude.{ℕ, ◌≡◌, Result, Ok, Err, IsErrAnd}
+use Rattle.std.proofs.Common.{ap}
 use Rattle.laws.specs.Outcome.{Outcome, refused, gives}
 use Rattle.fields.specs.declared.refusals.Refusal.{Refusal}
 use Rattle.fields.specs.declared.refusals.Refusal.TheVariants.{Short, Kind, Size, Length, Bit, Sum, Instruction}
 use Rattle.fields.specs.declared.refusals.Refusal.TheVariants.{Operand, Unwritten, Unset, Weightless, Position, Buffer}
 use Rattle.fields.specs.declared.refusals.Refusal.TheVariants.{Multiplier, Table, Step, Signer, Cap, Reserve}
-use Rattle.fields.specs.declared.refusals.Written.{Written}
 
 abbrev pub number_of : Refusal → ℕ
 number_of Short = 1
@@ -28,7 +28,12 @@ number_of Signer = 17
 number_of Cap = 18
 number_of Reserve = 19
 
--- the cases of a writer's answer in 01's numbers
-abbrev pub written : Written → Outcome ℕ
-written (Written.Refused why) = refused (number_of why)
-written (Written.Length n) = gives n
+-- an operation's answer in 01's numbers
+abbrev pub answered : {A : Type 0} → Result A Refusal → Outcome A
+answered (Ok a) = gives a
+answered (Err why) = refused (number_of why)
+
+-- a refusal that `?` passes on is the same one
+pub passed_on : {A : Type 0} (r : Result A Refusal) (why : Refusal) → IsErrAnd r (λ e. e ≡ why) → answered r ≡ refused (number_of why)
+passed_on (Ok a) why h = absurd h
+passed_on (Err e) why h = ap (λ x. refused (number_of x)) h

@@ -3,11 +3,9 @@ use Rattle.std.specs.Prelude.{ℕ, ◌*◌, ◌/◌, ◌≤◌, ◌<◌, ◌≡�
 use Rattle.std.proofs.Common.{sym, div-lt_iff_lt-mul, le-div_iff_mul-le, arith}
 use borrow.Author.Tests.{lt-ltb, le-ltb}
 use Rattle.laws.specs.Sums.{any}
-use Rattle.laws.specs.Outcome.{Outcome, refused, gives, refuse, ◌>>◌}
+use Rattle.laws.specs.Outcome.{Outcome, refused, refuse, ◌>>◌}
 use Rattle.fields.specs.Fields.{spare, width}
 use Rattle.fields.specs.Limits.{outside, most_columns, within}
-use Rattle.fields.specs.Refusal.{number_of}
-use Rattle.fields.specs.declared.packing.Strings.{Strings}
 
 -- whether a spare bit is set behind any of `count` strings of n bits, one after another
 abbrev pub any_spare : ℕ → ℕ → List ℕ → Bool
@@ -23,11 +21,6 @@ strings_under most count n bytes = do
 -- at the limit of columns
 abbrev pub strings_of : ℕ → ℕ → List ℕ → Outcome (Unit {0})
 strings_of = strings_under most_columns
-
--- the answer's cases in 01's numbers
-abbrev pub strung : Strings → Outcome (Unit {0})
-strung (Strings.Refused why) = refused (number_of why)
-strung Strings.Sound = gives tt
 
 -- ---- the ways through the checks, with the room found by a division
 module _ (count n : ℕ) (bytes : List ℕ) where

@@ -1,5 +1,5 @@
 // What files and strings are made of: refusals, 16-bit fields, packed bits, the limit of columns, and strings of bits packed as a row is
-// (01, "Files", "Runs, words, samples", "The engine's no"); with the answer of whatever writes into a lent buffer.
+// (01, "Files", "Runs, words, samples", "The engine's no"); an operation's answer is a `Result` whose error is a refusal.
 //
 // Every operation takes any content and any length. Its contract cites one definition of specs/.
 #![tactic(auto)]
@@ -10,8 +10,8 @@ mod packing;
 mod records;
 mod refusals;
 
-pub use bits::{bit, width};
+pub use bits::{bit, pack_bits, width};
 pub use limits::{COLUMNS, lesser, outside};
-pub use packing::{Strings, check_strings};
+pub use packing::check_strings;
 pub use records::{field, put_field};
-pub use refusals::{Refusal, Written, number};
+pub use refusals::Refusal;

@@ -9,12 +9,12 @@ pub const COLUMNS: usize = 192;
 pub fn outside(most: usize, x: usize) -> bool
     ensures { result ≡ outside most x }
 {
-    (x < 1) | (most < x)
+    !(1..=most).contains(&x)
 }
 
 // The smaller of two numbers.
 pub fn lesser(a: usize, b: usize) -> usize
     ensures { result ≡ min a b }
 {
-    if b < a { b } else { a }
+    a.min(b)
 }

@@ -3,14 +3,10 @@ ghost use Rattle.std.specs.Prelude.{◌≡◌, ◌<◌, get_or};
 ghost use Rattle.fields.specs.Fields.{field_of, stored};
 
 // The byte at `at`; beyond the end it is 0.
-fn byte(bytes: &[u8], at: usize) -> usize
+fn byte(bytes: &[u8], at: usize) -> u8
     ensures { (result ≡ get_or bytes.now at 0) × (result < 256) }
 {
-    if at < bytes.len() {
-        bytes[at] as usize
-    } else {
-        0
-    }
+    bytes.get(at).copied().unwrap_or(0)
 }
 
 // The 16-bit field at `at`, lowest byte first; bytes beyond the end are 0.
@@ -21,7 +17,7 @@ pub fn field(bytes: &[u8], at: usize) -> usize
     if bytes.len() <= at {
         return 0;
     }
-    byte(bytes, at) + 256 * byte(bytes, at + 1)
+    usize::from(u16::from_le_bytes([byte(bytes, at), byte(bytes, at + 1)]))
 }
 
 // Stores x as the 16-bit field at `at`; where there is no room for it, nothing.
@@ -34,6 +30,7 @@ pub fn put_field(bytes: &mut [u8], at: usize, x: u16)
     if bytes.len() - 2 < at {
         return;
     }
-    bytes[at] = (x % 256) as u8;
-    bytes[at + 1] = (x / 256) as u8;
+    let [low, high] = x.to_le_bytes();
+    bytes[at] = low;
+    bytes[at + 1] = high;
 }

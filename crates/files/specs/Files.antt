@@ -2,13 +2,11 @@
 use Rattle.std.specs.Prelude.{ℕ, ◌+◌, ◌*◌, ◌^◌, ◌≤◌, ◌≡◌, Bool, not, List, ◌++◌, eqb, ltb, length, get_or, take, drop}
 use Rattle.laws.specs.Sums.{any}
 use Rattle.laws.specs.Lists.{blocks}
-use Rattle.laws.specs.Outcome.{Outcome, refused, gives, refuse, ◌>>◌, ◌>>=◌}
-use Rattle.fields.specs.Refusal.{number_of}
+use Rattle.laws.specs.Outcome.{Outcome, gives, refuse, ◌>>◌, ◌>>=◌}
 use Rattle.fields.specs.Limits.{most_columns, outside}
 use Rattle.fields.specs.Fields.{field_of, field_bytes, width, bit_of, packed}
 use Rattle.fields.specs.Strings.{any_spare}
 use Rattle.files.specs.Matrix.{Matrix, Sizes, tabled, bit, total, most_rows}
-use Rattle.files.specs.declared.headers.Checked.{Checked}
 
 -- the length that a matrix file of m rows and n columns has
 abbrev pub file_length : ℕ → ℕ → ℕ
@@ -118,11 +116,6 @@ write_under most m n entries room = do
 -- at the limit of columns
 abbrev pub write_of : ℕ → ℕ → List ℕ → ℕ → Outcome (List ℕ)
 write_of = write_under most_columns
-
--- ---- the answer's cases in 01's numbers and values
-abbrev pub checked : Checked → Outcome Sizes
-checked (Checked.Refused why) = refused (number_of why)
-checked (Checked.Matrix m n) = gives (record { rows = m; columns = n })
 
 -- ---- what a header that has passed says: the sizes are in their limits, and the rows are all there and nothing else
 pub record Whole (file : List ℕ) (s : Sizes) : Type 0 where

@@ -1,16 +1,15 @@
 -- T at most 2^n, decided column by column with no number above twice the rows. Assumes nothing.
 use Prim.Native.Nat.{ℕ, zero, suc, ◌+◌, ◌*◌, ◌-◌, ◌/◌, ◌%◌, ◌^◌, ◌≤◌, ◌<◌, min}
 use Rattle.std.specs.Prelude.{◌≡◌, refl, Bool, true, false, ◌&&◌, List, leb, get_or}
-use Rattle.std.proofs.Common.{sym, ap, ◌∙◌, ⊎_elim, add_comm, one-mul, le_of_mul-le-mul_right, mul-le-mul_right, le-leb, pow_pos}
+use Rattle.std.proofs.Common.{sym, ap, ◌∙◌, ⊎_elim, one-mul, le_of_mul-le-mul_right, mul-le-mul_right, le-leb, pow_pos}
 use native.Mathlib.Omega.{arith}
 use Rattle.std.proofs.Math.Nat.{pow-succ', le_dest, sub-zero, min-eq_left, min-le_right}
 use Rattle.std.proofs.Math.Numerals.{add-one}
 use Rattle.std.proofs.lemmas.Bool.{lt-leb}
-use Rattle.std.specs.Int.Bits.{bit_and}
+use Rattle.std.specs.Int.Bits.{bit_and, and_mask}
 use Rattle.laws.specs.Tests.{lt-or_ge}
 use Rattle.laws.specs.Sums.{sum_to, sum-eq, sum-le, sum_same, sum_plus, sum-times}
 use Rattle.laws.specs.Digits.{number, number_shift, digit}
-use Rattle.laws.specs.Words.{bit_at, bit_at_read}
 use Rattle.fields.specs.Fields.{packed_bit}
 use Rattle.files.specs.Matrix.{ones_in}
 
@@ -27,9 +26,13 @@ unfoldable pub live : (ℕ → ℕ → ℕ) → ℕ → ℕ → ℕ → ℕ → 
 live bit m c h zero = true
 live bit m c h (suc k) = leb (ones_in bit m c) (2 * h) && live bit m (suc c) (min (2 * h - ones_in bit m c) m) k
 
--- bit `shift` of byte first + v * stride: how a column is read
-unfoldable pub strided : List ℕ → ℕ → ℕ → ℕ → ℕ → ℕ
-strided bytes first stride shift v = bit_at (get_or bytes (first + v * stride) 0) shift
+-- rows that are all there, in `size` bytes
+pub record There (per stride m n size : ℕ) : Type 0 where
+  pub some : 0 < per
+  pub bits : per ≤ 8
+  pub some_rows : 1 ≤ m
+  pub few_rows : m ≤ 65535
+  pub within : (v c : ℕ) → v < m → c < n → v * stride + c / per < size
 
 -- ---- live is T at most 2^n
 -- the total splits off its first column
@@ -118,18 +121,10 @@ unfolding Open
 open_first bit m n ok = rw (sub-zero n) (live-is bit m n ok)
 
 -- ---- a column, as it is read
-pub strided_read : (bytes : List ℕ) (first stride shift v : ℕ) →
-    bit_and (get_or bytes (first + v * stride) 0 / 2 ^ shift) 1 ≡ strided bytes first stride shift v
-unfolding strided
-strided_read bytes first stride shift v = bit_at_read (get_or bytes (first + v * stride) 0) shift
-
--- the ones that are read are the column's
-pub strided-ones : (bytes : List ℕ) (per stride m c : ℕ) →
-    sum_to m (strided bytes (c / per) stride (per - 1 - c % per)) ≡ ones_in (λ v. packed_bit per bytes (v * stride)) m c
-unfolding strided ones_in packed_bit digit bit_at
-strided-ones bytes per stride m c =
-    sum-eq m (strided bytes (c / per) stride (per - 1 - c % per)) (λ v. packed_bit per bytes (v * stride) c)
-    (λ v l. ap (λ (i : ℕ). bit_at (get_or bytes i 0) (per - 1 - c % per)) (add_comm (c / per) (v * stride)))
+pub column_read : (bytes : List ℕ) (per stride c v : ℕ) →
+    bit_and (get_or bytes (v * stride + c / per) 0 / 2 ^ (per - 1 - c % per)) 1 ≡ packed_bit per bytes (v * stride) c
+unfolding packed_bit digit
+column_read bytes per stride c v = and_mask (get_or bytes (v * stride + c / per) 0 / 2 ^ (per - 1 - c % per)) 1
 
 -- ---- what depends on the bits of the m rows and n columns alone
 module _ (f g : ℕ → ℕ → ℕ) (m n : ℕ) (same : (v c : ℕ) → v < m → c < n → f v c ≡ g v c) where

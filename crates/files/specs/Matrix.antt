@@ -4,6 +4,8 @@ use Rattle.laws.specs.Sums.{sum_to}
 use Rattle.laws.specs.Digits.{number}
 use Rattle.laws.specs.Lists.{blocks, upto}
 use Rattle.fields.specs.Limits.{most_columns, outside}
+-- m and n, the code's own type
+pub use Rattle.files.specs.declared.headers.Sizes.{Sizes}
 
 -- m is 1 to 128, and n 1 to `most_columns`
 abbrev pub most_rows : ℕ
@@ -16,10 +18,6 @@ outside_under most m n = outside most_rows m || outside most n
 -- at the limit of columns
 abbrev pub sizes_outside : ℕ → ℕ → Bool
 sizes_outside = outside_under most_columns
-
-pub record Sizes : Type 0 where
-  pub rows : ℕ
-  pub columns : ℕ
 
 -- m rows of n bits, row after row
 pub record Matrix : Type 0 where

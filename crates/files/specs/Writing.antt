@@ -1,6 +1,6 @@
 -- The ways through the checks of a matrix that is written, and what is laid down. Assumes nothing.
 use Prim.Native.Nat.{ℕ, ◌+◌, ◌-◌, ◌*◌, ◌/◌, ◌%◌, ◌^◌, ◌≤◌, ◌<◌}
-use Rattle.std.specs.Prelude.{◌≡◌, refl, true, false, not, ltb, get_or}
+use Rattle.std.specs.Prelude.{◌≡◌, refl, true, false, not, ltb, get_or, take, drop}
 use Rattle.std.proofs.Math.Path.{sym}
 use Rattle.std.proofs.Common.{◌∙◌, arith, lt-ltb, le-ltb, ltb-false, length-append}
 use mathlib.Core.List.{List, ◌++◌}
@@ -8,7 +8,7 @@ use Rattle.std.proofs.Math.ListN.{length}
 use Rattle.std.proofs.Math.Seq.{get_or-take}
 use Rattle.laws.specs.Sums.{any_false}
 use Rattle.laws.specs.Digits.{digit}
-use Rattle.laws.specs.Lists.{blocks, blocks-eq, length-blocks}
+use Rattle.laws.specs.Lists.{blocks, blocks-eq, length-blocks, length_part, part_at}
 use Rattle.laws.specs.Lay.{Laid, laid_none, laid-after, lay, lay_at, lay_at-after, lay-is, length-lay}
 use Rattle.laws.specs.Outcome.{Outcome, refused, gives, refuse, ◌>>◌, mapped, laid, passed, gives_inj, mapped-gives, mapped-refused}
 use Rattle.laws.specs.Outcome.{mapped-then, ends-given}
@@ -79,6 +79,15 @@ module _ (m n : ℕ) (entries : List ℕ) where
       rw (total-is (taken m n entries) (λ v. packed_bit 1 entries (v * n))
       (λ v c h l. taken_bit v c h l ∙ sym (entry-bit entries (v * n) c (ok (v * n + c) (cell h l)))))
       (not_above (total_from (λ v. packed_bit 1 entries (v * n)) m 0 n) (2 ^ n))
+
+-- a row of the entries, packed
+pub row_packed : (k size n : ℕ) (entries bytes : List ℕ) → size ≡ n → k + n ≤ length entries →
+    bytes ≡ packed (length (take size (drop k entries))) (λ i. get_or (take size (drop k entries)) i 0) →
+    bytes ≡ packed n (λ i. get_or entries (k + i) 0)
+row_packed k size n entries bytes e h q =
+    q ∙
+    rw (length_part k size n entries e h)
+    (packed-eq n (λ i. get_or (take size (drop k entries)) i 0) (λ i. get_or entries (k + i) 0) (λ i l. part_at k size n entries 0 i e l))
 
 -- ---- the checks
 module _ (m n : ℕ) (entries : List ℕ) (room : ℕ) where

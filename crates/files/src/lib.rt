@@ -9,6 +9,6 @@ mod live;
 mod reading;
 mod writing;
 
-pub use headers::{Checked, ROWS, sizes_outside, write_header};
+pub use headers::{ROWS, Sizes, write_header};
 pub use reading::{check, read};
 pub use writing::write;

@@ -2,66 +2,68 @@
 // either use. A failed write ends the program with that error.
 #![tactic(auto)]
 
-use fields::Written;
-use files::Checked;
+ghost use Rattle.std.specs.Prelude.{◌≤◌};
+
+use fields::Refusal;
+use files::Sizes;
 use std::io;
 use std::io::{BufWriter, Write};
 use weights::Usage;
 
-fn print_refusal<W: Write>(out: &mut W, number: u32) -> io::Result<()> {
-    writeln!(out, "refused {number}")
+// One line. Programs that print a refusal so share no crate but fields, which has no words for it.
+fn print_refusal<W: Write>(out: &mut W, why: Refusal) -> io::Result<()> {
+    writeln!(out, "refused {}", u32::from(why))
 }
 
-fn print_checked<W: Write>(out: &mut W, answer: Checked) -> io::Result<()> {
+fn print_sizes<W: Write>(out: &mut W, answer: Result<Sizes, Refusal>) -> io::Result<()> {
     match answer {
-        Checked::Refused(why) => print_refusal(out, fields::number(why)),
-        Checked::Matrix { rows, columns } => writeln!(out, "{rows} rows, {columns} columns"),
+        Err(why) => print_refusal(out, why),
+        Ok(sizes) => writeln!(out, "{} rows, {} columns", sizes.rows, sizes.columns),
     }
 }
 
-fn print_written<W: Write>(out: &mut W, answer: Written) -> io::Result<()> {
+fn print_written<W: Write>(out: &mut W, answer: Result<usize, Refusal>) -> io::Result<()> {
     match answer {
-        Written::Refused(why) => print_refusal(out, fields::number(why)),
-        Written::Length(length) => writeln!(out, "{length} bytes"),
+        Err(why) => print_refusal(out, why),
+        Ok(length) => writeln!(out, "{length} bytes"),
     }
 }
 
-// Files of 128 and of 129 rows of one column, all 0.
-fn read_cases<W: Write>(out: &mut W) -> io::Result<()> {
-    let mut entries = [0u8; 129];
-    let mut most = [0u8; 136];
-    most[0] = 136;
-    most[2] = 32;
-    most[4] = 128;
-    most[6] = 1;
-    print_checked(out, files::read(&most, &mut entries))?;
-    let mut more = [0u8; 137];
-    more[0] = 137;
-    more[2] = 32;
-    more[4] = 129;
-    more[6] = 1;
-    print_checked(out, files::read(&more, &mut entries))
+// A file of so many rows of one column, all 0.
+fn read_case<W: Write>(out: &mut W, rows: u8) -> io::Result<()>
+    requires { rows ≤ 129 }
+{
+    // room for 129 rows, of which a file of fewer is the front
+    let mut file = [0u8; 137];
+    file[0] = 8 + rows;
+    file[2] = 32;
+    file[4] = rows;
+    file[6] = 1;
+    print_sizes(
+        out,
+        files::read(&file[..8 + usize::from(rows)], &mut [0; 129]),
+    )
 }
 
-fn write_cases<W: Write>(out: &mut W) -> io::Result<()> {
-    let entries = [0u8; 129];
-    let mut file = [0u8; 136];
-    print_written(out, files::write(128, 1, &entries, &mut file))?;
-    print_written(out, files::write(129, 1, &entries, &mut file))
+fn write_case<W: Write>(out: &mut W, rows: usize) -> io::Result<()> {
+    let sizes = Sizes { rows, columns: 1 };
+    print_written(out, files::write(sizes, &[0; 129], &mut [0; 136]))
 }
 
 fn build_cases<W: Write>(out: &mut W, usage: Usage) -> io::Result<()> {
     let weights = [1u32; 129];
     let mut file = [0u8; 136];
     print_written(out, weights::build(&weights[..128], 8, usage, &mut file))?;
-    print_checked(out, files::check(&file))?;
+    print_sizes(out, files::check(&file))?;
     print_written(out, weights::build(&weights, 8, usage, &mut file))
 }
 
 fn main(rt: HostRuntime) -> io::Result<()> {
     let mut out = BufWriter::new(rt.alloc(), io::writer(&rt))?;
-    read_cases(&mut out)?;
-    write_cases(&mut out)?;
+    read_case(&mut out, 128)?;
+    read_case(&mut out, 129)?;
+    write_case(&mut out, 128)?;
+    write_case(&mut out, 129)?;
     build_cases(&mut out, Usage::Plain)?;
     build_cases(&mut out, Usage::Signed)?;
     out.flush()

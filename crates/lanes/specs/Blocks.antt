@@ -1,7 +1,7 @@
 -- Slicing in blocks of 64 columns: 8 bytes of each string are a row of a table, and the transposed table's rows are words. Assumes nothing.
-use Rattle.std.specs.Prelude.{ℕ, ◌+◌, ◌-◌, ◌*◌, ◌/◌, ◌%◌, ◌^◌, min, ◌≤◌, ◌<◌, ◌≡◌, refl, length}
+use Rattle.std.specs.Prelude.{ℕ, ◌+◌, ◌-◌, ◌*◌, ◌/◌, ◌%◌, ◌^◌, min, ◌≤◌, ◌<◌, ◌≡◌, refl, length, take, drop}
 use Rattle.std.proofs.Math.Path.{ap}
-use Rattle.std.proofs.Common.{◌∙◌, ⊎_elim, zero-add, pow_mono, shl_exact}
+use Rattle.std.proofs.Common.{◌∙◌, ⊎_elim, zero-add, pow_mono, shl_exact, length-take, length-drop, get_or-take, get_or-drop}
 use mathlib.Core.List.{List}
 use native.Mathlib.Omega.{arith}
 use Rattle.std.specs.Int.Bits.{bit_or}
@@ -20,6 +20,15 @@ use Rattle.lanes.specs.Slicing.{lanes, word_of}
 -- row j of block q: m bytes of string j from its byte 8 q on, as a number with the first bit highest
 abbrev pub row_of : List ℕ → ℕ → ℕ → ℕ → ℕ → ℕ
 row_of s w q m j = number (bit_of s (j * w + 8 * q)) 0 (8 * m)
+
+-- the m bytes from `at` on, as a loop over them has them: how many they are, and each of them
+pub bytes-long : (s : List ℕ) (at m : ℕ) → at + m ≤ length s → length (take (at + m - at) (drop at s)) ≡ m
+bytes-long s at m h = simp (length-take, length-drop) (omega arith)
+
+pub bytes_are : (s : List ℕ) (at m b : ℕ) → b < m → get_or (take (at + m - at) (drop at s)) b 0 ≡ get_or s (at + b) 0
+bytes_are s at m b h =
+    let long : at + m - at ≡ m = omega arith in
+    rw long (get_or-take m (drop at s) b 0 h ∙ get_or-drop at s b 0)
 
 -- ---- one row, byte by byte
 module _ (s : List ℕ) (at : ℕ) where

@@ -1,6 +1,6 @@
 -- What holds lane by lane of what the operations leave in the buffers lent. Assumes nothing.
 use Rattle.std.specs.Prelude.{ℕ, zero, suc, ◌+◌, ◌-◌, ◌*◌, ◌/◌, ◌%◌, ◌^◌, ◌≤◌, ◌<◌, ◌≡◌, refl, Bool, true, false, not, cond, List, ◌↔◌, ◌⊎◌}
-use Rattle.std.specs.Prelude.{eqb, ltb, ℤ, pos, neg_ℤ, nat_abs, length, get_or, drop}
+use Rattle.std.specs.Prelude.{eqb, ltb, ℤ, pos, neg_ℤ, nat_abs, length, get_or, drop, Ok}
 use Rattle.std.proofs.Common.{sym, ap, ◌∙◌, inl, inr, ⊎_elim, zero-mul, arith, lt-ltb, le-ltb, ltb-true, ltb-false, length-take}
 use Rattle.std.proofs.Common.{length-drop, get_or-take, get_or-drop}
 use Rattle.std.proofs.lemmas.Bool.{not-false}
@@ -14,13 +14,13 @@ use Rattle.laws.specs.Lay.{lay, at_front}
 use Rattle.laws.specs.Outcome.{gives, refuse, ◌>>◌, gives_inj, laid, mapped, mapped-gives, passed, refuse-gives, then-gives}
 use Rattle.fields.specs.Fields.{bit_of, packed_bit, bit_le, spare, width}
 use Rattle.fields.specs.Limits.{outside, most_columns}
+use Rattle.fields.specs.Refusal.{answered}
 use Rattle.fields.specs.Strings.{strings_under, strings_of}
 use Rattle.programs.specs.Limits.{most_rows, suited}
 use Rattle.walk.specs.Walk.{Answer, sample, missed, is_miss}
 use Rattle.lanes.specs.Slicing.{lanes, slice_under, slice_of, string_at, word_of}
 use Rattle.lanes.specs.Samples.{lane_hits, spelled, lane_says, below_rows, sample_of}
-use Rattle.lanes.specs.Samples.{code, each_lane, sampled, samples_of, signed_code, signed_samples_of}
-use Rattle.lanes.specs.declared.sampling.Sampled.TheVariants as Sampled
+use Rattle.lanes.specs.Samples.{code, each_lane, samples_of, signed_code, signed_samples_of}
 
 -- element i of a list that is laid at the front
 laid-at : {A : Type 0} (n : ℕ) (f : ℕ → A) (buf : List A) (i : ℕ) (d : A) → i < n → get_or (lay (upto n f) buf) i d ≡ f i
@@ -177,7 +177,7 @@ read_lanes rows outputs room f xs e =
 
 -- what reading that gives numbers leaves in the buffer
 module _ {A : Type 0} (rows : ℕ) (outputs : List ℕ) (buf : List A) (f : ℕ → A)
-    (e : sampled Sampled.All ≡ mapped (λ xs. tt) (each_lane rows outputs (length buf) f)) where
+    (e : answered (Ok (tt {0})) ≡ mapped (λ xs. tt) (each_lane rows outputs (length buf) f)) where
   lane_read : (j : ℕ) (d : A) → j < lanes → get_or (lay (laid (λ xs. xs) (each_lane rows outputs (length buf) f)) buf) j d ≡ f j
   lane_read j d h =
       let g = mapped-gives (λ xs. tt {0}) (each_lane rows outputs (length buf) f) tt e in
@@ -185,13 +185,13 @@ module _ {A : Type 0} (rows : ℕ) (outputs : List ℕ) (buf : List A) (f : ℕ 
       rw (g.1, r.is) (laid-at lanes f buf j d h)
 
 -- Where lane j of the outputs gives g, sample j is g's code; and with a sign word, its signed code.
-pub samples_say : (rows : ℕ) (outputs buf : List ℕ) → sampled Sampled.All ≡ mapped (λ xs. tt) (samples_of rows outputs (length buf)) →
+pub samples_say : (rows : ℕ) (outputs buf : List ℕ) → answered (Ok (tt {0})) ≡ mapped (λ xs. tt) (samples_of rows outputs (length buf)) →
     (j : ℕ) (g : Answer) → j < lanes → sample_of rows outputs j ≡ g →
     get_or (lay (laid (λ xs. xs) (samples_of rows outputs (length buf))) buf) j 0 ≡ code g
 samples_say rows outputs buf e j g h q = lane_read rows outputs buf (λ j. code (sample_of rows outputs j)) e j 0 h ∙ ap code q
 
 pub signed_say : (rows : ℕ) (outputs : List ℕ) (sign : ℕ) (buf : List ℤ) →
-    sampled Sampled.All ≡ mapped (λ xs. tt) (signed_samples_of rows outputs sign (length buf)) →
+    answered (Ok (tt {0})) ≡ mapped (λ xs. tt) (signed_samples_of rows outputs sign (length buf)) →
     (j : ℕ) (g : Answer) → j < lanes → sample_of rows outputs j ≡ g →
     get_or (lay (laid (λ xs. xs) (signed_samples_of rows outputs sign (length buf))) buf) j (pos 0) ≡ signed_code (bit_at sign j) g
 signed_say rows outputs sign buf e j g h q =

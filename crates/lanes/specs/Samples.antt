@@ -2,8 +2,9 @@
 -- write it. Assumes nothing.
 use Prim.Native.Nat.{ℕ, zero, suc, ◌+◌, ◌-◌, ◌*◌, ◌%◌, ◌^◌, min, max, ◌≤◌, ◌<◌}
 use Rattle.std.specs.Prelude.{◌≡◌, refl, Bool, true, false, not, cond, List, ◌⊎◌, eqb, ltb, ℤ, pos, negsuc, neg_ℤ, ◌+ℤ◌, ◌-ℤ◌, get_or, set}
+use Rattle.std.specs.Prelude.{take, drop}
 use Rattle.std.proofs.Common.{sym, ◌∙◌, subst, ⊎_elim, eq-or-lt_of_le, mul-le-mul_left, mul-one, mul-zero, one-mul, zero-mul, SFits, to_z}
-use Rattle.std.proofs.Common.{of_z, lit<, get_or-set_same, get_or-set_other}
+use Rattle.std.proofs.Common.{of_z, lit<, get_or-set_same, get_or-set_other, get_or-drop, length-drop}
 use Rattle.std.proofs.Math.Path.{ap}
 use Rattle.std.proofs.Math.Logic.{inl, inr}
 use native.Mathlib.Omega.{arith}
@@ -17,17 +18,15 @@ use Rattle.std.proofs.Math.ListN.{length, get_or-eq_default}
 use Rattle.laws.specs.Tests.{reached, zero-or_one}
 use Rattle.laws.specs.Words.{kept, bit_at, pack, bit_at_lt, bit_at_zero, bit_at_and, bit_at_or, bit_at_not, bit_at_pack}
 use Rattle.laws.specs.Words.{masked_lt, pack-bits, pack-eq, pack-lt, pack-mod, pack-ones, pack-short}
-use Rattle.laws.specs.Lists.{upto}
+use Rattle.laws.specs.Lists.{upto, rest_is}
 use Rattle.laws.specs.Lay.{lay, lay-is, Laid, upto_done}
 use Rattle.laws.specs.Outcome.{Outcome, refused, gives, refuse, mapped, laid, ◌>>◌, ends-refused, ends-given}
-use Rattle.fields.specs.Refusal.{number_of}
 use Rattle.programs.specs.Width.{row_bits, row_lt}
 use Rattle.programs.specs.Limits.{most_outputs, suited}
 use Rattle.programs.specs.Reading.{suited_means}
 use Rattle.walk.specs.Walk.{Answer, sample, missed}
 use Rattle.lanes.specs.Transposing.{side, front, transposed, transposed-row, Table, Front, table-set, front-set}
 use Rattle.lanes.specs.Slicing.{lanes}
-use Rattle.lanes.specs.declared.sampling.Sampled.{Sampled}
 
 -- whether bit j of output 0 is set
 unfoldable pub lane_hits : List ℕ → ℕ → Bool
@@ -71,6 +70,14 @@ each_lane rows outputs room number = do
   refuse 13 (ltb room lanes)
   gives (upto lanes number)
 
+-- a way of writing what a lane gives, with its bit of the sign word
+abbrev pub Coding : Type 0 → Type 0
+Coding A = ℕ → Answer → A
+
+-- reading with such a way of writing, and a sign word
+abbrev pub read_of : {A : Type 0} → Coding A → ℕ → List ℕ → ℕ → ℕ → Outcome (List A)
+read_of code rows outputs sign room = each_lane rows outputs room (λ j. code (bit_at sign j) (sample_of rows outputs j))
+
 -- reading samples: refusal 3 or 13, or the samples
 abbrev pub samples_of : ℕ → List ℕ → ℕ → Outcome (List ℕ)
 samples_of rows outputs room = each_lane rows outputs room (λ j. code (sample_of rows outputs j))
@@ -78,11 +85,6 @@ samples_of rows outputs room = each_lane rows outputs room (λ j. code (sample_o
 -- reading signed samples, with a sign word
 abbrev pub signed_samples_of : ℕ → List ℕ → ℕ → ℕ → Outcome (List ℤ)
 signed_samples_of rows outputs sign room = each_lane rows outputs room (λ j. signed_code (bit_at sign j) (sample_of rows outputs j))
-
--- the answer's cases in 01's numbers
-abbrev pub sampled : Sampled → Outcome (Unit {0})
-sampled (Sampled.Refused why) = refused (number_of why)
-sampled Sampled.All = gives tt
 
 -- ---- the ways through the checks
 module _ {A : Type 0} (rows : ℕ) (outputs : List ℕ) (room : ℕ) (number : ℕ → A) where
@@ -216,6 +218,15 @@ module _ (outputs : List ℕ) (last : ℕ) where
         (λ (z : b ≡ 1). subst (Compared outputs last (t + 1)) (sym (r ∙ rw z)) (compared_set (sym q ∙ z)))
         (zero-or_one b (omega (arith, bit_at_lt last t)))
 
+-- the outputs behind the first, as a loop over them has them: how many they are, and each of them
+pub others-long : (outputs : List ℕ) → length (take (length outputs - 1) (drop 1 outputs)) ≡ length outputs - 1
+others-long outputs = ap length (rest_is 1 outputs) ∙ length-drop 1 outputs
+
+pub others_are : (outputs : List ℕ) (t : ℕ) → get_or (take (length outputs - 1) (drop 1 outputs)) t 0 ≡ get_or outputs (t + 1) 0
+others_are outputs t =
+    ap (λ (xs : List ℕ). get_or xs t 0) (rest_is 1 outputs) ∙
+    (get_or-drop 1 outputs t 0 ∙ ap (λ (i : ℕ). get_or outputs i 0) (omega arith))
+
 -- all bits are compared: those of rows - 1 are no more than the outputs have
 pub compared_done : (rows : ℕ) (outputs : List ℕ) (t word : ℕ) → suited rows (length outputs) ≡ true → t ≤ length outputs - 1 →
     length outputs - 1 ≤ t → Compared outputs (rows - 1) t word → Below rows outputs word
@@ -262,11 +273,24 @@ pub record Spread (outputs : List ℕ) (hits sign : ℕ) (rows : List ℕ) : Typ
   pub number : Cells outputs hits 15 rows
   pub signs : (j : ℕ) → j < lanes → bit_at (get_or rows 15 0) j ≡ min (bit_at sign j) (bit_at hits j)
 
--- what the rows of the table then say of the lanes, of m rows of a matrix, with a sign and without
+-- an answer in k bits: its number, or for a miss the largest one
+abbrev pub in_bits : ℕ → Answer → ℕ
+in_bits k (sample x) = x
+in_bits k missed = 2 ^ k - 1
+
+-- its sign, where the lane's bit of the sign word is this one: a miss has none
+abbrev pub sign_of : ℕ → Answer → ℕ
+sign_of bit (sample x) = bit
+sign_of bit missed = 0
+
+-- what a lane gives, with its bit of the sign word, as its row has it: in the 15 lowest bits, of which the lowest 8 do, and then its sign
+pub record LaneRow (bit : ℕ) (g : Answer) (row : ℕ) : Type 0 where
+  pub number : (k : ℕ) → 8 ≤ k → k ≤ 15 → row % 2 ^ k ≡ in_bits k g
+  pub sign : bit_at row 15 ≡ sign_of bit g
+
+-- so of each row of the table, of m rows of a matrix
 pub record LaneRows (m : ℕ) (outputs : List ℕ) (sign : ℕ) (rows : List ℕ) : Type 0 where
-  pub plain : (j : ℕ) → j < lanes → get_or rows j 0 % 2 ^ 8 ≡ code (sample_of m outputs j)
-  pub signed : (j : ℕ) → j < lanes →
-      negated_if (bit_at (get_or rows j 0) 15) (get_or rows j 0 % 2 ^ 15) ≡ signed_code (bit_at sign j) (sample_of m outputs j)
+  pub lane : (j : ℕ) → j < lanes → LaneRow (bit_at sign j) (sample_of m outputs j) (get_or rows j 0)
 
 -- ---- the rows, one after another
 module _ (outputs : List ℕ) (hits : ℕ) where
@@ -341,31 +365,33 @@ module _ (m : ℕ) (outputs : List ℕ) (hits sign : ℕ) (rows : List ℕ) (few
       ap (λ (x : ℕ). bit_at x 15) (transposed-row rows j b) ∙
       (bit_at_pack side (λ t. bit_at (get_or rows t 0) j) 15 (λ t l. bit_at_lt (get_or rows t 0) j) (omega arith) ∙ p.signs j b)
 
-  read_plain : get_or (transposed rows) j 0 % 2 ^ 8 ≡ code (sample_of m outputs j)
-  read_plain =
+  lane_row : LaneRow (bit_at sign j) (sample_of m outputs j) (get_or (transposed rows) j 0)
+  lane_row =
       ⊎_elim
       (λ (e : (bit_at hits j ≡ 1) × (sample_of m outputs j ≡ sample (spelled outputs j))).
-      rw e.1 (low-cells 8 (omega arith) ∙ cells-hit outputs hits j 8 e.0 (omega arith)))
+      record {
+        number = λ k a b. rw e.1 (low-cells k b ∙ cells-hit outputs hits j k e.0 (omega arith));
+        sign = rw (sign_bit, e.1, e.0) (omega (arith, bit_at_lt sign j));
+      })
       (λ (e : (bit_at hits j ≡ 0) × (sample_of m outputs j ≡ missed)).
-      rw e.1 (low-cells 8 (omega arith) ∙ cells_miss outputs hits j 8 e.0))
-      (g.lane j b)
-
-  read_signed : negated_if (bit_at (get_or (transposed rows) j 0) 15) (get_or (transposed rows) j 0 % 2 ^ 15) ≡
-      signed_code (bit_at sign j) (sample_of m outputs j)
-  read_signed =
-      ⊎_elim
-      (λ (e : (bit_at hits j ≡ 1) × (sample_of m outputs j ≡ sample (spelled outputs j))).
-      let same : min (bit_at sign j) 1 ≡ bit_at sign j = omega (arith, bit_at_lt sign j) in
-      rw (sign_bit, low-cells 15 (omega arith), cells-hit outputs hits j 15 e.0 (omega arith), e.1, e.0, same))
-      (λ (e : (bit_at hits j ≡ 0) × (sample_of m outputs j ≡ missed)).
-      let clear : min (bit_at sign j) 0 ≡ 0 = omega arith in
-      rw (sign_bit, low-cells 15 (omega arith), cells_miss outputs hits j 15 e.0, e.1, e.0, clear))
+      record {
+        number = λ k a b. rw e.1 (low-cells k b ∙ cells_miss outputs hits j k e.0);
+        sign = rw (sign_bit, e.1, e.0) (omega arith);
+      })
       (g.lane j b)
 
 pub lanes_read : (m : ℕ) (outputs : List ℕ) (hits sign : ℕ) (rows now : List ℕ) → length outputs ≤ most_outputs → Given m outputs hits →
     Spread outputs hits sign rows → now ≡ transposed rows → LaneRows m outputs sign now
-lanes_read m outputs hits sign rows now few g p e =
-    rw e (record { plain = read_plain m outputs hits sign rows few g p; signed = read_signed m outputs hits sign rows few g p })
+lanes_read m outputs hits sign rows now few g p e = rw e (record { lane = λ j b. lane_row m outputs hits sign rows few g p j b })
+
+-- ---- a row read, without its sign and with it
+pub row_code : (bit : ℕ) (g : Answer) (row : ℕ) → LaneRow bit g row → row % 2 ^ 8 ≡ code g
+row_code bit (sample x) row h = h.number 8 (omega arith) (omega arith)
+row_code bit missed row h = h.number 8 (omega arith) (omega arith)
+
+pub row_signed : (bit : ℕ) (g : Answer) (row : ℕ) → LaneRow bit g row → negated_if (bit_at row 15) (row % 2 ^ 15) ≡ signed_code bit g
+row_signed bit (sample x) row h = rw (h.number 15 (omega arith) (omega arith), h.sign)
+row_signed bit missed row h = rw (h.number 15 (omega arith) (omega arith), h.sign)
 
 -- ---- negation in 16 bits
 minus_is : (x : ℕ) → x < 2 ^ 15 → pos 0 -ℤ to_z w16 x ≡ neg_ℤ (pos x)

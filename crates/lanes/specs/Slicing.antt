@@ -7,9 +7,7 @@ use Rattle.laws.specs.Lists.{upto}
 use Rattle.laws.specs.Outcome.{Outcome, refused, gives, refuse, ◌>>◌, passed}
 use Rattle.fields.specs.Fields.{bit_of, width}
 use Rattle.fields.specs.Limits.{outside, most_columns}
-use Rattle.fields.specs.Refusal.{number_of}
 use Rattle.fields.specs.Strings.{strings_under, strings_of}
-use Rattle.lanes.specs.declared.slicing.Sliced.{Sliced}
 
 -- the bits of a word
 abbrev pub lanes : ℕ
@@ -37,11 +35,6 @@ slice_under most n strings room = do
 -- at the limit of columns
 abbrev pub slice_of : ℕ → List ℕ → ℕ → Outcome (List ℕ)
 slice_of = slice_under most_columns
-
--- the answer's cases in 01's numbers, and how many words are laid down
-abbrev pub sliced : Sliced → Outcome ℕ
-sliced (Sliced.Refused why) = refused (number_of why)
-sliced (Sliced.Words n) = gives n
 
 -- ---- the ways through the checks
 module _ (n : ℕ) (strings : List ℕ) (room : ℕ) where

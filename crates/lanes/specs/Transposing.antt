@@ -8,6 +8,7 @@ use Rattle.std.proofs.Math.Nat.{zero-mod, zero-div, add-mod_right, div-eq_of_lt,
 use Rattle.std.proofs.lemmas.Bool.{not-true, not-false}
 use Rattle.std.specs.Int.Bits.{bit_and, bit_xor}
 use Rattle.std.proofs.lemmas.Nat.{xor_lt}
+use Rattle.std.proofs.Math.ListN.{get_or-eq_default}
 use Rattle.std.proofs.Math.Seq.{ext_get_or}
 use Rattle.laws.specs.Tests.{both, lt-or_ge, reached, zero-or_one}
 use Rattle.laws.specs.Sums.{any, any_false}
@@ -249,11 +250,13 @@ pub record Idle (d n : ℕ) (rows : List ℕ) : Type 0 where
   pub low : (r : ℕ) → n ≤ r → r < d → get_or rows r 0 ≡ 0
   pub high : (r : ℕ) → n ≤ r → r < d → get_or rows (r + d) 0 ≡ 0
 
-pub idle_none : (d : ℕ) (rows : List ℕ) → Idle d d rows
-idle_none d rows = record { low = λ r a b. absurd (omega arith); high = λ r a b. absurd (omega arith) }
+pub idle_front : (d n m : ℕ) (rows : List ℕ) → m ≡ min n d → Front n rows → Idle d m rows
+idle_front d n m rows e f =
+    record { low = λ r a b. f.clear r (omega arith); high = λ r a b. f.clear (r + d) (omega arith) }
 
-pub idle_front : (d n : ℕ) (rows : List ℕ) → Front n rows → Idle d n rows
-idle_front d n rows f = record { low = λ r a b. f.clear r a; high = λ r a b. f.clear (r + d) (omega arith) }
+-- a table has no rows beyond its last
+pub table-front : (rows : List ℕ) → Table rows → Front side rows
+table-front rows t = record { clear = λ r a. get_or-eq_default rows 0 {n = r} (omega (arith, t.long)) }
 
 -- so of that block, exchanged up to n, all rows are exchanged
 crossed_idle : (d m n : ℕ) (old now : List ℕ) → n ≤ d → Idle d n old → Crossed d m 0 (0 + n) old now → Crossed d m 0 (0 + d) old now
@@ -372,6 +375,12 @@ pub first_exchanged : {m : ℕ} (n : ℕ) (old now : List ℕ) → Round 32 m �
     Crossed 32 m 0 (0 + n) old now → Exchanged 32 side old now
 first_exchanged {m} n old now round h t f p =
     exchanged_more round 0 old old now (zero-mod 64) (exchanged_none 32 old t) (crossed_idle 32 m n old now h f p)
+
+-- of a table whose rows from `set` on are zero
+pub first_front : {m : ℕ} (set n : ℕ) (old now : List ℕ) → Round 32 m → n ≡ min set 32 → Table old → Front set old →
+    Crossed 32 m 0 (0 + n) old now → Exchanged 32 side old now
+first_front {m} set n old now round e t f p =
+    first_exchanged n old now round (omega arith) t (idle_front 32 set n old e f) p
 
 -- ---- six rounds
 -- one round after another, the last first

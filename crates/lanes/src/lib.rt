@@ -9,5 +9,5 @@ mod sampling;
 mod slicing;
 mod transposing;
 
-pub use sampling::{MISS, SIGNED_MISS, Sampled, samples, signed_samples};
-pub use slicing::{LANES, Sliced, slice};
+pub use sampling::{MISS, SIGNED_MISS, Sample, read, samples, signed_samples};
+pub use slicing::{LANES, slice};

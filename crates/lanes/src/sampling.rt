@@ -1,15 +1,18 @@
 // Samples: output words to numbers, lane by lane (01, "Runs, words, samples"; 02, order 10).
-ghost use Rattle.std.specs.Prelude.{◌≡◌, cond, true, ◌-◌, ◌%◌, ◌^◌, ◌<◌, eqb, length, get_or};
+ghost use Rattle.std.specs.Prelude.{ℕ, ◌≡◌, cond, true, ◌-◌, ◌%◌, ◌^◌, ◌<◌, eqb, length, get_or};
 ghost use Rattle.std.specs.Int.Bits.{bit_and, bit_or};
 ghost use Rattle.laws.specs.Lay.{lay};
 ghost use Rattle.laws.specs.Outcome.{laid, mapped};
 ghost use Rattle.laws.specs.Words.{bit_at};
+ghost use Rattle.fields.specs.Refusal.{answered};
 ghost use Rattle.programs.specs.Limits.{suited};
 ghost use Rattle.lanes.specs.Transposing.{Front, Table, front};
-ghost use Rattle.lanes.specs.Samples.{Below, LaneRows, Spread, negated_if, sampled, samples_of, signed_samples_of};
+ghost use Rattle.walk.specs.Walk.{Answer};
+ghost use Rattle.lanes.specs.Samples.{Below, Coding, LaneRow, LaneRows, Spread, code, negated_if, read_of, samples_of};
+ghost use Rattle.lanes.specs.Samples.{signed_code, signed_samples_of};
 
 use crate::slicing::LANES;
-use crate::transposing::{SIDE, transpose_front};
+use crate::transposing::{SIDE, transpose};
 use fields::Refusal;
 use programs::suited;
 
@@ -21,18 +24,14 @@ pub const SIGNED_MISS: i16 = 32767;
 // The row of the signs, above those of a number.
 const SIGN: usize = 15;
 
-// A refusal, or that the samples of all lanes are laid down.
-#[derive(Clone, Copy)]
-pub enum Sampled {
-    Refused(Refusal),
-    All,
-}
+// The rows that are set before the table is turned.
+const FRONT: usize = 16;
 
 // Output t, or 0 where there is none.
 fn output(outputs: &[u64], t: usize) -> u64
     ensures { result ≡ get_or outputs.now t 0 }
 {
-    if t < outputs.len() { outputs[t] } else { 0 }
+    outputs.get(t).copied().unwrap_or(0)
 }
 
 // One bit more of the numbers in all lanes, above those compared so far: `fits` has the lanes that are at most the largest number allowed,
@@ -49,10 +48,9 @@ fn below(rows: usize, outputs: &[u64]) -> u64
     ensures { Below rows outputs.now result }
 {
     let last = rows - 1;
-    let bits = outputs.len() - 1;
     let mut fits = u64::MAX;
-    for t in 0..bits {
-        fits = compare(fits, output(outputs, t + 1), (last >> t) & 1);
+    for (t, x) in outputs[1..].iter().enumerate() {
+        fits = compare(fits, *x, (last >> t) & 1);
     }
     fits
 }
@@ -63,8 +61,8 @@ fn spread(outputs: &[u64], hits: u64, sign: u64, table: &mut [u64; SIDE])
     requires { Table table.old × Front front table.old }
     ensures { Spread outputs.now hits sign table.new }
 {
-    for t in 0..SIGN {
-        table[t] = output(outputs, t + 1) | !hits;
+    for (t, row) in table[..SIGN].iter_mut().enumerate() {
+        *row = output(outputs, t + 1) | !hits;
     }
     table[SIGN] = sign & hits;
 }
@@ -76,14 +74,35 @@ fn lane_rows(rows: usize, outputs: &[u64], sign: u64, table: &mut [u64; SIDE])
 {
     let hits = output(outputs, 0) & below(rows, outputs);
     spread(outputs, hits, sign, table);
-    transpose_front(table);
+    transpose(table, FRONT);
 }
 
-// The sample in a lane's row.
-fn sample(row: u64) -> u8
-    ensures { result ≡ row % 2 ^ 8 }
-{
-    (row & (MISS as u64)) as u8
+// What is read off the lanes: numbers, or numbers with a sign.
+pub trait Sample: Copy {
+    // An answer as a sample, with the lane's bit of the sign word.
+    ghost code: { Coding Self };
+
+    // The sample in a lane's row.
+    fn of_row(row: u64) -> Self
+        ensures { (bit : ℕ) (g : Answer) → LaneRow bit g row → result ≡ code bit g };
+}
+
+// The number; it has no sign.
+impl Sample for u8 {
+    ghost code = { λ bit g. code g };
+
+    fn of_row(row: u64) -> u8 {
+        (row & (MISS as u64)) as u8
+    }
+}
+
+// The number, negated where the sign is set. A miss has no sign.
+impl Sample for i16 {
+    ghost code = { signed_code };
+
+    fn of_row(row: u64) -> i16 {
+        negated_if(sign_bit(row), distance(row))
+    }
 }
 
 // The number in a lane's row, before its sign.
@@ -110,49 +129,48 @@ fn negated_if(bit: u16, number: u16) -> i16
     kept as i16 + -(negated as i16)
 }
 
-// The signed sample in a lane's row. A miss has no sign.
-fn signed_sample(row: u64) -> i16
-    ensures { result ≡ negated_if (bit_at row 15) (row % 2 ^ 15) }
-{
-    negated_if(sign_bit(row), distance(row))
-}
-
-// Reads the samples of all lanes from output words, of so many rows, and lays them at the front of `samples`; or refusal 3 for rows
-// outside 1 to 128 or output words that do not suit them, then 13.
-pub fn samples(rows: usize, outputs: &[u64], samples: &mut [u8]) -> Sampled
-    ensures { let o = samples_of rows outputs.now (length samples.old) in
-        (sampled result ≡ mapped (λ xs. tt) o) × (samples.new ≡ lay (laid (λ xs. xs) o) samples.old) }
+// Reads the samples of all lanes from output words, of so many rows, with a sign word, and lays them at the front of `samples`; or refusal
+// 3 for rows outside 1 to 128 or output words that do not suit them, then 13. Rows and words come apart, as C passes them.
+pub fn read<S: Sample>(
+    rows: usize,
+    outputs: &[u64],
+    sign: u64,
+    samples: &mut [S],
+) -> Result<(), Refusal>
+    ensures { let o = read_of S.code rows outputs.now sign (length samples.old) in
+        (answered result ≡ mapped (λ xs. tt) o) × (samples.new ≡ lay (laid (λ xs. xs) o) samples.old) }
 {
     if !suited(rows, outputs.len()) {
-        return Sampled::Refused(Refusal::Size);
+        return Err(Refusal::Size);
     }
     if samples.len() < LANES {
-        return Sampled::Refused(Refusal::Buffer);
-    }
-    let mut table = [0u64; SIDE];
-    lane_rows(rows, outputs, 0, &mut table);
-    for j in 0..LANES {
-        samples[j] = sample(table[j]);
-    }
-    Sampled::All
-}
-
-// Reads the signed samples of all lanes from output words and a sign word and lays them at the front of `samples`; refusals as for
-// `samples`.
-pub fn signed_samples(rows: usize, outputs: &[u64], sign: u64, samples: &mut [i16]) -> Sampled
-    ensures { let o = signed_samples_of rows outputs.now sign (length samples.old) in
-        (sampled result ≡ mapped (λ xs. tt) o) × (samples.new ≡ lay (laid (λ xs. xs) o) samples.old) }
-{
-    if !suited(rows, outputs.len()) {
-        return Sampled::Refused(Refusal::Size);
-    }
-    if samples.len() < LANES {
-        return Sampled::Refused(Refusal::Buffer);
+        return Err(Refusal::Buffer);
     }
     let mut table = [0u64; SIDE];
     lane_rows(rows, outputs, sign, &mut table);
-    for j in 0..LANES {
-        samples[j] = signed_sample(table[j]);
+    for (j, row) in table.iter().enumerate() {
+        samples[j] = S::of_row(*row);
     }
-    Sampled::All
+    Ok(())
+}
+
+// Samples without a sign.
+pub fn samples(rows: usize, outputs: &[u64], samples: &mut [u8]) -> Result<(), Refusal>
+    ensures { let o = samples_of rows outputs.now (length samples.old) in
+        (answered result ≡ mapped (λ xs. tt) o) × (samples.new ≡ lay (laid (λ xs. xs) o) samples.old) }
+{
+    read(rows, outputs, 0, samples)
+}
+
+// Signed samples, with a sign word.
+pub fn signed_samples(
+    rows: usize,
+    outputs: &[u64],
+    sign: u64,
+    samples: &mut [i16],
+) -> Result<(), Refusal>
+    ensures { let o = signed_samples_of rows outputs.now sign (length samples.old) in
+        (answered result ≡ mapped (λ xs. tt) o) × (samples.new ≡ lay (laid (λ xs. xs) o) samples.old) }
+{
+    read(rows, outputs, sign, samples)
 }

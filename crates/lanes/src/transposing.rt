@@ -1,15 +1,15 @@
 // A table of 64 rows of 64 bits, turned over its diagonal by shifts and masks: slicing and the reading of samples both are that turn.
 // Which machine instructions it takes does not depend on a bit of the table.
 ghost use Rattle.std.specs.Prelude.{◌≡◌, ◌+◌, ◌*◌, ◌≤◌, ◌<◌, length};
-ghost use Rattle.lanes.specs.Transposing.{Crossed, Exchanged, Front, Idle, Round, Table, front, side, transposed};
+ghost use Rattle.lanes.specs.Transposing.{Crossed, Exchanged, Front, Round, Table, side, transposed};
+
+use fields::lesser;
 
 // The rows of a table, and the bits of a row.
 pub(crate) const SIDE: usize = 64;
 
-// The rows of a table that `transpose_front` takes as set: the others are zero.
-const FRONT: usize = 16;
-
-// In rows k to k + 2 d - 1: exchanges the bits of the first n rows outside the mask with those of the n rows d behind them inside it.
+// In rows k to k + 2 d - 1: exchanges the bits of the first n rows outside the mask with those of the n rows d behind them inside it. One
+// index serves both rows, where slices of the two halves would have to be cut and zipped.
 fn exchange_block(rows: &mut [u64; SIDE], k: usize, n: usize, d: usize, mask: u64)
     requires { (0 < d) × (n ≤ d) × (k + 2 * d ≤ side) × (length rows.old ≡ side) }
     ensures { Crossed d mask k (k + n) rows.old rows.new }
@@ -28,39 +28,21 @@ fn exchange(rows: &mut [u64; SIDE], d: usize, mask: u64)
     requires { Round d mask × Table rows.old }
     ensures { Exchanged d side rows.old rows.new }
 {
-    let mut k: usize = 0;
-    while k < SIDE {
+    for k in (0..SIDE).step_by(2 * d) {
         exchange_block(rows, k, d, d, mask);
-        k += 2 * d;
     }
 }
 
-// Turns the table over its diagonal in six rounds. In the first, rows from n to 31 and those 32 behind them are zero and stay so: they need
-// no exchange.
-fn six_rounds(rows: &mut [u64; SIDE], n: usize)
-    requires { (n ≤ 32) × Table rows.old × Idle 32 n rows.old }
+// Turns the table over its diagonal, in six rounds: bit c of row r becomes bit r of row c. Rows from `set` on are zero: in the first round
+// those of them below row 32 and those 32 behind them stay so, and need no exchange.
+pub(crate) fn transpose(rows: &mut [u64; SIDE], set: usize)
+    requires { Table rows.old × Front set rows.old }
     ensures { rows.new ≡ transposed rows.old }
 {
-    exchange_block(rows, 0, n, 32, 0x0000_0000_ffff_ffff);
+    exchange_block(rows, 0, lesser(set, 32), 32, 0x0000_0000_ffff_ffff);
     exchange(rows, 16, 0x0000_ffff_0000_ffff);
     exchange(rows, 8, 0x00ff_00ff_00ff_00ff);
     exchange(rows, 4, 0x0f0f_0f0f_0f0f_0f0f);
     exchange(rows, 2, 0x3333_3333_3333_3333);
     exchange(rows, 1, 0x5555_5555_5555_5555);
-}
-
-// Turns the table over its diagonal: bit c of row r becomes bit r of row c.
-pub(crate) fn transpose(rows: &mut [u64; SIDE])
-    requires { Table rows.old }
-    ensures { rows.new ≡ transposed rows.old }
-{
-    six_rounds(rows, 32);
-}
-
-// The same of a table whose rows from 16 on are zero.
-pub(crate) fn transpose_front(rows: &mut [u64; SIDE])
-    requires { Table rows.old × Front front rows.old }
-    ensures { rows.new ≡ transposed rows.old }
-{
-    six_rounds(rows, FRONT);
 }

@@ -6,6 +6,7 @@ use Rattle.std.proofs.Common.{length-take-le}
 use mathlib.Core.List.{List, [], ◌∷◌, ◌++◌, append_assoc, append-nil}
 use Rattle.std.proofs.Math.ListN.{length, take, drop, length-append, length-take, get_or-append}
 use Rattle.std.proofs.Math.Seq.{take_at, take-append_seam, drop_at, drop-append-add, drop-append_seam, drop-drop, set_split}
+use borrow.Rule.Slice.PartMut.{put_mid}
 use Rattle.laws.specs.Tests.{reached}
 use Rattle.laws.specs.Lists.{blocks, upto, blocks_more, length-blocks, upto_more, upto-split, length-upto}
 
@@ -116,6 +117,13 @@ module _ {A : Type 0} (k : ℕ) where
       rw (blocks_more n f)
       (laid-after at (blocks n f) (f n) buf now now' (omega (arith, length-blocks w f wide n)) (omega (arith, wide n)) q l)
 
+  -- a callee filled the part of the buffer that is block n's
+  pub laid_part : (w at size n : ℕ) (f : ℕ → List A) (buf now ys : List A) → ((v : ℕ) → length (f v) ≡ w) → at ≡ k + n * w →
+      at + w ≤ length buf → size ≡ w → ys ≡ f n → Laid k (blocks n f) buf now → Laid k (blocks (n + 1) f) buf (put_mid at size now ys)
+  unfolding lay_at
+  laid_part w at size n f buf now ys wide e h s q l =
+      laid_block w at n f buf now (put_mid at size now ys) wide e h (rw (q, s, wide n, drop-drop w at now)) l
+
   -- a callee laid m elements behind the n before them
   pub laid_more : (at n m : ℕ) (f : ℕ → A) (buf now now' : List A) → at ≡ k + n → at + m ≤ length buf →
       now' ≡ lay_at at (upto m (λ i. f (n + i))) now → Laid k (upto n f) buf now → Laid k (upto (n + m) f) buf now'
@@ -146,3 +154,12 @@ module _ {A : Type 0} (k : ℕ) where
   pub blocks-done : (i n : ℕ) (f : ℕ → List A) (buf now : List A) → i ≤ n → n ≤ i → Laid k (blocks i f) buf now →
       now ≡ lay_at k (blocks n f) buf
   blocks-done i n f buf now a b l = reached (λ m. now ≡ lay_at k (blocks m f) buf) i n a b l.is
+
+-- a buffer that is filled to its end
+pub upto_filled : {A : Type 0} (i : ℕ) (f : ℕ → A) (buf now : List A) → i ≤ length buf → length buf ≤ i → Laid 0 (upto i f) buf now →
+    now ≡ upto (length buf) f
+unfolding lay_at
+upto_filled i f buf now a b l =
+    let xs = upto (length buf) f in
+    let all : length buf ≤ 0 + length xs = omega (arith, length-upto (length buf) f) in
+    upto_done 0 i (length buf) f buf now a b l ∙ rw (drop_of_length-le buf {i = 0 + length xs} all) (append-nil xs)

@@ -3,7 +3,7 @@ use Prim.Native.Nat.{ℕ, zero, suc, ◌+◌, ◌-◌, ◌*◌, ◌/◌, ◌%◌
 use Rattle.std.specs.Prelude.{◌≡◌, take, drop, set, replicate}
 use Rattle.std.proofs.Math.Path.{refl, sym, ap}
 use Rattle.std.proofs.Common.{◌∙◌, subst, add-zero, eq-or-lt_of_le, le_of_suc-le-suc, eq-zero-or-pos, div-lt_iff_lt-mul, div-add-mod'}
-use Rattle.std.proofs.Common.{mod-lt, add-one, length-append, length-drop, ext_get_or, get_or-take, length-take-le, take_all}
+use Rattle.std.proofs.Common.{mod-lt, add-one, length-append, length-drop, ext_get_or, get_or-take, get_or-drop, length-take-le, take_all}
 use mathlib.Core.List.{List, [], ◌∷◌, ◌++◌, append_assoc, append-nil, map}
 use Rattle.std.proofs.Math.Logic.{⊎_elim}
 use Rattle.std.proofs.Math.Nat.{mul-one, mul-le-mul_right}
@@ -136,6 +136,14 @@ take-is d n xs h =
     (λ i l.
     let k : i < n = omega (arith, length-take-le n xs h) in
     get_or-take n xs i d k ∙ sym (get_d_upto n (λ i. get_or xs i d) i d k))
+
+-- a part of a slice: n elements from k on
+pub length_part : {A : Type 0} (k size n : ℕ) (xs : List A) → size ≡ n → k + n ≤ length xs → length (take size (drop k xs)) ≡ n
+length_part k size n xs e h = length-take-le size (drop k xs) (rw (length-drop k xs) (omega arith)) ∙ e
+
+pub part_at : {A : Type 0} (k size n : ℕ) (xs : List A) (d : A) (i : ℕ) → size ≡ n → i < n →
+    get_or (take size (drop k xs)) i d ≡ get_or xs (k + i) d
+part_at k size n xs d i e h = get_or-take size (drop k xs) i d (omega arith) ∙ get_or-drop k xs i d
 
 -- the part of a slice from k on
 pub rest_is : {A : Type 0} (k : ℕ) (xs : List A) → take (length xs - k) (drop k xs) ≡ drop k xs

@@ -1,6 +1,9 @@
 -- Sums over the numbers below a bound, and tests of any of them. Assumes nothing.
 use Rattle.std.specs.Prelude.{ℕ, zero, suc, ◌+◌, ◌*◌, ◌≤◌, ◌<◌, ◌≡◌, refl, Bool, true, false, ◌||◌, ◌≢◌}
-use Rattle.std.proofs.Common.{sym, ap, ⊎_elim, add-zero, eq-or-lt_of_le, le_of_suc-le-suc, lt_irrefl, add-one, arith}
+use Rattle.std.specs.Prelude.{List, [], ◌∷◌, length, get_or, take}
+use Rattle.std.specs.List.{list_any, range_with_len, sum_by}
+use Rattle.std.proofs.Common.{sym, ap, ◌∙◌, ⊎_elim, add-zero, eq-or-lt_of_le, le_of_suc-le-suc, lt_irrefl, add-one, arith}
+use Rattle.std.proofs.lemmas.List.Sums.{sum_by-cons}
 use Rattle.laws.specs.Tests.{neither, reached}
 
 -- g 0 + .. + g (n - 1)
@@ -86,6 +89,19 @@ sum_changed (suc n) i f g h e =
     ⊎_elim (λ (q : i ≡ n). rw q (omega (arith, sum-eq n f g (λ j l. e j (λ r. lt_irrefl n (omega arith))))))
     (λ (q : i < n). omega (arith, sum_changed n i f g q e, e n (λ r. lt_irrefl n (omega arith)))) (eq-or-lt_of_le (le_of_suc-le-suc h))
 
+-- the sum of a range, as the library's iterators make it
+sum_from : (a n : ℕ) (g : ℕ → ℕ) → sum_by g (range_with_len a n) ≡ sum_to n (λ i. g (a + i))
+unfolding sum_to
+sum_from a zero g = refl
+sum_from a (suc n) g =
+    let on = sum-eq n (λ i. g (a + 1 + i)) (λ i. g (a + suc i)) (λ i l. ap g (omega arith)) in
+    sum_by-cons g a (range_with_len (a + 1) n) ∙
+    (ap (λ (x : ℕ). g a + x) (sum_from (a + 1) n g ∙ on) ∙
+    (ap (λ (x : ℕ). x + sum_to n (λ i. g (a + suc i))) (ap g (sym (add-zero a))) ∙ sym (sum-front n (λ i. g (a + i)))))
+
+pub sum_range : (n : ℕ) (g : ℕ → ℕ) → sum_by g (range_with_len 0 n) ≡ sum_to n g
+sum_range n g = sum_from 0 n g ∙ sum-eq n (λ i. g (0 + i)) g (λ i l. ap g (omega arith))
+
 -- ---- tests, in the words of a loop that counts up and leaves at the first that passes
 pub any_none : (t : ℕ → Bool) → any 0 t ≡ false
 unfolding any
@@ -127,6 +143,42 @@ pub any-all : (n : ℕ) (t : ℕ → Bool) → ((i : ℕ) → i < n → t i ≡ 
 unfolding any
 any-all zero t e = refl
 any-all (suc n) t e = rw (e n (omega arith)) (any-all n t (λ i l. e i (omega arith)))
+
+-- ---- tests as the library's iterators make them: of each number of a range, and of the first items of a list
+any-eq : (n : ℕ) (t u : ℕ → Bool) → ((i : ℕ) → t i ≡ u i) → any n t ≡ any n u
+unfolding any
+any-eq zero t u e = refl
+any-eq (suc n) t u e = rw (e n, any-eq n t u e)
+
+any-front : (n : ℕ) (t : ℕ → Bool) → (t 0 || any n (λ i. t (suc i))) ≡ any (suc n) t
+unfolding any
+any-front zero t = refl
+any-front (suc n) t = swapped (t 0) (t (suc n)) (any n (λ i. t (suc i))) ∙ ap (λ (b : Bool). t (suc n) || b) (any-front n t)
+  where
+    swapped : (a b c : Bool) → (a || (b || c)) ≡ (b || (a || c))
+    swapped true true c = refl
+    swapped true false c = refl
+    swapped false true c = refl
+    swapped false false c = refl
+
+any_from : (a n : ℕ) (t : ℕ → Bool) → list_any t (range_with_len a n) ≡ any n (λ i. t (a + i))
+unfolding any
+any_from a zero t = refl
+any_from a (suc n) t =
+    ap (λ (b : Bool). t a || b)
+    (any_from (a + 1) n t ∙ any-eq n (λ i. t (a + 1 + i)) (λ i. t (a + suc i)) (λ i. ap t (omega arith))) ∙
+    (ap (λ (b : Bool). b || any n (λ i. t (a + suc i))) (ap t (sym (add-zero a))) ∙ any-front n (λ i. t (a + i)))
+
+pub any_range : (n : ℕ) (t : ℕ → Bool) → list_any t (range_with_len 0 n) ≡ any n t
+any_range n t = any_from 0 n t ∙ any-eq n (λ i. t (0 + i)) t (λ i. ap t (omega arith))
+
+pub any_taken : {A : Type 0} (d : A) (t : A → Bool) (n : ℕ) (xs : List A) → n ≤ length xs →
+    list_any t (take n xs) ≡ any n (λ i. t (get_or xs i d))
+unfolding any
+any_taken d t zero xs h = refl
+any_taken d t (suc n) [] h = absurd (omega arith)
+any_taken d t (suc n) (x ∷ xs) h =
+    ap (λ (b : Bool). t x || b) (any_taken d t n xs (omega arith)) ∙ any-front n (λ i. t (get_or (x ∷ xs) i d))
 
 -- ---- a loop's turns and its end
 pub sum_turn : (f : ℕ → ℕ) (v n x : ℕ) → x ≡ f v → n ≡ sum_to v f → n + x ≡ sum_to (v + 1) f

@@ -3,7 +3,8 @@ use Rattle.std.specs.Prelude.{ℕ, ◌≤◌, ◌<◌, ◌≡◌, refl, Bool, tr
 use Rattle.std.proofs.Common.{arith, le-ltb, ne_eqb, length-take-le}
 use Rattle.laws.specs.Outcome.{Outcome, refused, gives, refuse, ◌>>◌, mapped, mapped-gives}
 use Rattle.fields.specs.Fields.{field_of, field-small, field-front}
-use Rattle.files.specs.Matrix.{Sizes, most_rows}
+use Rattle.files.specs.Matrix.{most_rows}
+use Rattle.files.specs.declared.headers.Sizes.{Sizes}
 use Rattle.fields.specs.Limits.{outside, most_columns}
 use Rattle.files.specs.Files.{file_length, sizes_under, header_under, header_of, matrix_under}
 use Rattle.programs.specs.Instructions.{length_of}

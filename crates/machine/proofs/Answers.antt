@@ -1,23 +1,23 @@
 -- The ways of a start and a resume, in the words of their contracts. Assumes nothing.
-use Rattle.std.specs.Prelude.{ℕ, ◌≤◌, ◌<◌, ◌≡◌, refl, Bool, true, false, List, ◌++◌, length, take, drop}
+use Rattle.std.specs.Prelude.{ℕ, ◌≤◌, ◌<◌, ◌≡◌, Bool, true, List, ◌++◌, length, take, drop, replicate}
 use Rattle.std.proofs.Common.{◌∙◌, arith, length-take-le}
 use borrow.Author.Tests.{le-ltb, lt-ltb}
 use Rattle.laws.specs.Lay.{lay, lay-nothing}
-use Rattle.laws.specs.Outcome.{refused, gives, mapped}
+use Rattle.laws.specs.Outcome.{Outcome, refused, gives, mapped}
 use Rattle.laws.specs.Outcome.{mapped-refused}
 use Rattle.programs.specs.Header.{header_length}
 use Rattle.programs.specs.declared.description.Program.{Program}
 use Rattle.machine.specs.Meaning.{word_gates}
 use Rattle.checker.specs.Checks.{Code, check_of}
 use Rattle.machine.specs.Runs.{Ended, run_of}
-use Rattle.machine.specs.Calls.{Sized, Entry, start, resume, on_entry, Call, call_on, begins, from, admits}
+use Rattle.machine.specs.Calls.{Sized, Call, call_on, begins, from, admits}
 use Rattle.machine.proofs.Calls.{call_is, call_gives}
-use Rattle.machine.specs.Calls.{cleared, lent, admitted, sized-from, sized_run}
+use Rattle.machine.specs.Calls.{cleared, admitted, sized-from, sized_run}
 use Rattle.checker.specs.Standing.{Formed}
 use Rattle.machine.specs.Steps.{state}
-use Rattle.machine.specs.Turns.{Ends, prepared}
+use Rattle.machine.specs.Turns.{Ends}
 use Rattle.machine.specs.declared.runs.Run.{Run}
-use Rattle.machine.specs.Answers.{Answers, Accepted, lacking, Fits, accepted-file, room_is, part_long, clears}
+use Rattle.machine.specs.Answers.{Answers, Accepted, lacking, Fits, accepted-file, room_is, part_long}
 
 -- ---- refusals
 module _ (k : Call ℕ) (budget : ℕ) where
@@ -26,10 +26,10 @@ module _ (k : Call ℕ) (budget : ℕ) where
       let q : call_on k budget ≡ refused n = call_is k budget ∙ rw e in
       (rw q, (rw q (lay-nothing k.registers), rw q (lay-nothing k.outputs)))
 
-  pub call_refused : (n : ℕ) → refused n ≡ mapped (λ c. c.program) (check_of k.file) →
-      Answers k budget (refused n) k.registers k.outputs
+  pub call_refused : {r : Outcome Run} (n : ℕ) → r ≡ refused n → refused n ≡ mapped (λ c. c.program) (check_of k.file) →
+      Answers k budget r k.registers k.outputs
   unfolding admitted
-  call_refused n e = refuses n (rw (mapped-refused (λ (c : Code). c.program) (check_of k.file) n e))
+  call_refused n is-r e = rw is-r (refuses n (rw (mapped-refused (λ (c : Code). c.program) (check_of k.file) n e)))
 
   module _ (p : Program) (e : gives p ≡ mapped (λ c. c.program) (check_of k.file)) where
     pub call_beyond : p.count < begins k → Answers k budget (refused 12) k.registers k.outputs
@@ -62,40 +62,35 @@ unfolding run_of
 run_is a d = rw (d.answer, d.left, a.reads, ← a.counted)
 
 module _ {k : Call ℕ} {p : Program} (f : Fits k p) where
-  pub parts-formed : Formed p.count (length (take p.registers k.registers)) (length k.inputs)
-      (length (take p.outputs k.outputs)) (drop header_length k.file)
-  parts-formed =
+  -- words as many as the parts that are lent
+  pub parts-formed : (rs os : List ℕ) → length rs ≡ length (take p.registers k.registers) → length os ≡ length (take p.outputs k.outputs) →
+      Formed p.count (length rs) (length k.inputs) (length os) (drop header_length k.file)
+  parts-formed rs os e q =
       let r = f.room in
-      (accepted-file k.file p f.checked).formed k.inputs (take p.registers k.registers) (take p.outputs k.outputs)
+      (accepted-file k.file p f.checked).formed k.inputs rs os
       (record {
         for_inputs = r.for_inputs;
-        for_registers = omega (arith, part_long p.registers k.registers r.for_registers);
-        for_outputs = omega (arith, part_long p.outputs k.outputs r.for_outputs);
+        for_registers = omega (arith, e, part_long p.registers k.registers r.for_registers);
+        for_outputs = omega (arith, q, part_long p.outputs k.outputs r.for_outputs);
       })
 
-  -- the state that the code runs from is the call's
-  prepared-from : k.gates ≡ word_gates →
-      state (prepared (clears k) (take p.registers k.registers)) (prepared (clears k) (take p.outputs k.outputs)) ≡ from k p
-  prepared-from g = by k.entry
-    where
-      by : (e : Entry) →
-          state (prepared (on_entry e true (λ position. false)) (take p.registers k.registers))
-          (prepared (on_entry e true (λ position. false)) (take p.outputs k.outputs)) ≡
-          on_entry e (cleared k.gates p) (λ position. lent k.gates p k.registers k.outputs)
-      by start =
-          rw (
-            g,
-            length-take-le p.registers k.registers f.room.for_registers,
-            length-take-le p.outputs k.outputs f.room.for_outputs,
-          )
-      by (resume position) = refl
+  -- words of 0 are the state that a start runs from
+  pub zeros-cleared : {rs os : List ℕ} → rs ≡ replicate (length (take p.registers k.registers)) 0 →
+      os ≡ replicate (length (take p.outputs k.outputs)) 0 → state rs os ≡ cleared word_gates p
+  zeros-cleared e q =
+      rw (
+        e,
+        q,
+        length-take-le p.registers k.registers f.room.for_registers,
+        length-take-le p.outputs k.outputs f.room.for_outputs,
+      )
 
-  pub call_ends : k.gates ≡ word_gates → {budget : ℕ} {r : Run} {rs' os' : List ℕ} →
-      Ends k.file p.count k.inputs (prepared (clears k) (take p.registers k.registers))
-      (prepared (clears k) (take p.outputs k.outputs)) (begins k) budget r rs' os' →
+  -- a run from the call's state
+  pub call_ends : k.gates ≡ word_gates → {budget : ℕ} {r : Run} {rs os rs' os' : List ℕ} →
+      Ends k.file p.count k.inputs rs os (begins k) budget r rs' os' → state rs os ≡ from k p →
       Answers k budget (gives r) (rs' ++ drop p.registers k.registers) (os' ++ drop p.outputs k.outputs)
   unfolding lay
-  call_ends g {budget} {r} {rs'} {os'} d =
+  call_ends g {budget} {r} {rs' = rs'} {os' = os'} d same =
       (rw result, (rw (result, sized.of_registers), rw (result, sized.of_outputs)))
     where
       a : Accepted k.file p
@@ -105,7 +100,7 @@ module _ {k : Call ℕ} {p : Program} (f : Fits k p) where
       end = record { answer = r; state = state rs' os' }
 
       ran : run_of k.gates a.code.instructions k.inputs (begins k) budget (from k p) ≡ end
-      ran = rw (← prepared-from g, g) (run_is a d)
+      ran = rw (← same, g) (run_is a d)
 
       result : call_on k budget ≡ gives end
       result =

@@ -1,11 +1,12 @@
 -- The turns of a run that goes through gates: what is left from here ends where the whole ends. Assumes nothing.
-use Prim.Native.Nat.{ℕ, zero, suc, ◌+◌, ◌*◌, ◌-◌, ◌≤◌}
-use Rattle.std.specs.Prelude.{◌≡◌, refl, true, List, ltb, length}
-use Rattle.std.proofs.Common.{◌∙◌, ltb-true}
+use Prim.Native.Nat.{ℕ, zero, suc, ◌+◌, ◌*◌, ◌-◌, ◌≤◌, ◌<◌}
+use Rattle.std.specs.Prelude.{◌≡◌, refl, List, length, drop}
+use Rattle.std.proofs.Common.{sym, ◌∙◌, ⊎_elim, eq-or-lt_of_le, le_of_suc-le-suc}
 use native.Mathlib.Omega.{arith}
 use Rattle.fields.specs.Fields.{field_of}
-use Rattle.checker.specs.Standing.{Gate}
-use Rattle.machine.specs.Steps.{Connective, gate_kind, gate_words}
+use Rattle.programs.specs.Instructions.{length_of}
+use Rattle.checker.specs.Standing.{Standing, ReadyAt, Gate, some-ready, ready-room, formed-next}
+use Rattle.machine.specs.Steps.{Connective, conjunction, disjunction, gate_kind, gate_at, gate_words, Kinds, Gates, gates_words}
 use Rattle.machine.proofs.GateSteps.{gate_long, is_gate, does_gate}
 use Rattle.machine.specs.Turns.{Along, going_step, going_ready, along_ready, Next, NextFour}
 
@@ -27,34 +28,72 @@ module _ {file : List ℕ} {n₀ from : ℕ} {rs₀ : List ℕ} {n at : ℕ} {rs
 
 module _ {file : List ℕ} {n₀ from : ℕ} {rs₀ : List ℕ} {n at : ℕ} {rs : List ℕ} {a : Along file n₀ from rs₀ n at rs} {g : Connective}
     (t : NextFour a g) where
-  -- the first of four
-  pub first_next : Next a g
-  first_next = let l = t.some in record { some = omega arith; kind = t.kinds.first }
+  -- k of the four are done, and the next of them
+  pub gates_done : (k : ℕ) → k ≤ 4 → Along file n₀ from rs₀ (n - k) (at + k * 10) (gates_words g file at k rs)
+  unfolding gates_words
+  gates_done zero l =
+      let left : n - 0 ≡ n = omega arith in
+      let place : at + 0 ≡ at = omega arith in
+      rw (left, place) a
+  gates_done (suc k) l =
+      let left : n - suc k ≡ n - k - 1 = omega arith in
+      let place : at + suc k * 10 ≡ at + k * 10 + 10 = omega arith in
+      let s = t.some in
+      rw (left, place)
+      (gate_done {a = gates_done k (omega arith)} (record { some = omega arith; kind = t.kinds k l }) refl)
 
-  kind_at : (k : ℕ) → ltb k 4 ≡ true → field_of file (at + (10 * k + 2)) ≡ gate_kind g
-  kind_at zero l = t.kinds.first
-  kind_at (suc zero) l = t.kinds.second
-  kind_at (suc (suc zero)) l = t.kinds.third
-  kind_at (suc (suc (suc zero))) l = t.kinds.fourth
-  kind_at (suc (suc (suc (suc k)))) l = absurd (omega (arith, ltb-true (suc (suc (suc (suc k)))) 4 l))
+  gates_next : (k : ℕ) (l : k < 4) → Next (gates_done k (omega arith)) g
+  gates_next k l = let s = t.some in record { some = omega arith; kind = t.kinds k l }
 
-  -- and of those after it, where k are done
-  module _ (k : ℕ) (l : ltb k 4 ≡ true) {r : List ℕ} (d : Along file n₀ from rs₀ (n - k) (at + 10 * k) r) where
-    pub then_next : Next d g
-    then_next =
-        let s = t.some in
-        let place : at + 10 * k + 2 ≡ at + (10 * k + 2) = omega arith in
-        record { some = omega (arith, ltb-true k 4 l); kind = rw place (kind_at k l) }
-
-    pub then-done : {r' : List ℕ} → r' ≡ gate_words g file (at + 10 * k) r → Along file n₀ from rs₀ (n - (k + 1)) (at + 10 * (k + 1)) r'
-    then-done e =
-        let left : n - (k + 1) ≡ n - k - 1 = omega arith in
-        let place : at + 10 * (k + 1) ≡ at + 10 * k + 10 = omega arith in
-        rw (left, place) (gate_done {a = d} then_next e)
+  pub gates_stand : Gates file at (length rs) 4
+  gates_stand k l =
+      let d = gates_done k (omega arith) in
+      rw (d.long ∙ sym a.long) at (next_gate (gates_next k l))
 
   -- all four have room
   pub gates-room : at + 40 ≤ length file
-  gates-room =
-      let three = then-done 2 refl (then-done 1 refl (gate_done first_next refl) refl) refl in
-      let h = (next_gate (then_next 3 refl three)).room in
-      omega arith
+  gates-room = let h = (gates_stand 3 (omega arith)).room in omega arith
+
+-- ---- four gates of which k have been tried
+length_gate : (g : Connective) (file : List ℕ) (at : ℕ) → length_of (gate_at g file at) ≡ 10
+length_gate conjunction file at = refl
+length_gate disjunction file at = refl
+
+pub record Tried (g : Connective) (file : List ℕ) (at k : ℕ) : Type 0 where
+  pub left : Standing (4 - k) (drop (at + k * 10) file)
+  pub kinds : Kinds g file at k
+
+module _ {g : Connective} {file : List ℕ} {at : ℕ} where
+  pub tried_none : Standing 4 (drop at file) → Tried g file at 0
+  tried_none s =
+      let place : at + 0 ≡ at = omega arith in
+      record { left = rw place s; kinds = λ k l. absurd (omega arith) }
+
+  module _ {k : ℕ} (t : Tried g file at k) (l : k < 4) where
+    ready : ReadyAt file (at + k * 10) t.left.nr t.left.ni t.left.nq
+    ready = some-ready (4 - k) _ _ _ file (at + k * 10) (omega arith) t.left.formed
+
+    pub tried_room : at + k * 10 + 6 ≤ length file
+    tried_room = ready-room file _ _ _ _ ready
+
+    after : (h : Connective) → field_of file (at + k * 10 + 2) ≡ gate_kind h → Standing (4 - (k + 1)) (drop (at + k * 10 + 10) file)
+    after h e =
+        let s = t.left in
+        let more : 4 - k ≡ suc (4 - (k + 1)) = omega arith in
+        let long = length_gate h file (at + k * 10) in
+        record {
+          nr = s.nr;
+          ni = s.ni;
+          nq = s.nq;
+          formed = rw long at
+              (formed-next (4 - (k + 1)) _ _ _ file (at + k * 10) (gate_at h file (at + k * 10)) (is_gate ready refl h e).0.reads
+              (rw more at s.formed));
+        }
+
+    pub tried_more : field_of file (at + k * 10 + 2) ≡ gate_kind g → Tried g file at (k + 1)
+    tried_more e =
+        let place : at + (k + 1) * 10 ≡ at + k * 10 + 10 = omega arith in
+        record {
+          left = rw place (after g e);
+          kinds = λ j m. ⊎_elim (λ (q : j ≡ k). rw q e) (t.kinds j) (eq-or-lt_of_le (le_of_suc-le-suc (omega (arith, m))));
+        }

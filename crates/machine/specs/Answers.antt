@@ -11,7 +11,7 @@ use Rattle.programs.specs.declared.description.Instruction.{Instruction}
 use Rattle.machine.specs.Meaning.{word_gates}
 use Rattle.checker.specs.Checks.{Code, also, instruction_of, code_of, nothing, check_of}
 use Rattle.machine.specs.Runs.{room_for}
-use Rattle.machine.specs.Calls.{Room, on_entry, Call, call_on, begins}
+use Rattle.machine.specs.Calls.{Room, Call, call_on, begins}
 use Rattle.machine.specs.Calls.{room_says}
 use Rattle.checker.specs.Standing.{read_of, Formed}
 use Rattle.checker.specs.Operands.{range_means, range_wider}
@@ -100,8 +100,3 @@ room_means p inputs registers outputs b e q =
 -- the parts that are lent
 pub part_long : (n : ℕ) (ws : List ℕ) → n ≤ length ws → n ≡ length (take n ws)
 part_long n ws h = sym (length-take n ws ∙ omega arith)
-
--- ---- a run
--- whether a call clears what is lent
-abbrev pub clears : Call ℕ → Bool
-clears k = on_entry k.entry true (λ position. false)

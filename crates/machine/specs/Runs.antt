@@ -1,14 +1,12 @@
 -- 01, "Runs, words, samples": what a start and a resume come to. Assumes nothing.
 use Rattle.std.specs.Prelude.{ℕ, ◌+◌, ◌-◌, min, List, eqb, ltb, length, take, drop, replicate}
-use Rattle.laws.specs.Outcome.{Outcome, refused, gives, refuse, ◌>>◌, ◌>>=◌}
-use Rattle.fields.specs.Refusal.{number_of}
+use Rattle.laws.specs.Outcome.{Outcome, gives, refuse, ◌>>◌, ◌>>=◌}
 use Rattle.programs.specs.Limits.{most_inputs, most_instructions}
 use Rattle.programs.specs.declared.description.Program.{Program}
 use Rattle.programs.specs.declared.description.Instruction.{Instruction}
 use Rattle.machine.specs.Meaning.{Gates, word_gates, State, exec}
 use Rattle.checker.specs.Checks.{check_under}
 use Rattle.machine.specs.declared.runs.Run.{Run}
-use Rattle.machine.specs.declared.runs.Ran.{Ran}
 
 -- what a run comes to: its answer, and the program's registers and outputs after it
 pub record Ended (A : Type 0) : Type 0 where
@@ -80,8 +78,3 @@ start_of = start_on word_gates
 
 abbrev pub resume_of : List ℕ → List ℕ → List ℕ → List ℕ → ℕ → ℕ → Outcome (Ended ℕ)
 resume_of = resume_on word_gates
-
--- ---- the answers' cases in 01's numbers and values
-abbrev pub ran : Ran → Outcome Run
-ran (Ran.Refused why) = refused (number_of why)
-ran (Ran.Done r) = gives r

@@ -1,5 +1,5 @@
 -- What one instruction does where it stands in a file's bytes, for code that has read its kind and its operands. Assumes nothing.
-use Rattle.std.specs.Prelude.{ℕ, ◌+◌, ◌≤◌, ◌≡◌, List, length, get_or, set, drop}
+use Rattle.std.specs.Prelude.{ℕ, zero, suc, ◌+◌, ◌*◌, ◌≤◌, ◌<◌, ◌≡◌, List, length, get_or, set, drop}
 use Rattle.std.specs.Int.Bits.{bit_and, bit_or}
 use Rattle.laws.specs.Outcome.{gives}
 use Rattle.fields.specs.Fields.{field_of}
@@ -7,7 +7,7 @@ use Rattle.programs.specs.Instructions.{length_of, decode_of}
 use Rattle.programs.specs.declared.description.Instruction.{Instruction}
 use Rattle.programs.specs.declared.description.Instruction.TheVariants.{And, Or}
 use Rattle.machine.specs.Meaning.{word_gates, State, step}
-use Rattle.checker.specs.Standing.{ReadyAt}
+use Rattle.checker.specs.Standing.{ReadyAt, Gate}
 
 abbrev pub state : List ℕ → List ℕ → State ℕ
 state rs os = record { registers = rs; outputs = os }
@@ -37,6 +37,17 @@ gate_at g file at = gate_of g (field_of file (at + 4)) (field_of file (at + 6)) 
 unfoldable pub gate_words : Connective → List ℕ → ℕ → List ℕ → List ℕ
 gate_words g file at rs =
     set rs (field_of file (at + 4)) (gate_op g (get_or rs (field_of file (at + 6)) 0) (get_or rs (field_of file (at + 8)) 0))
+
+-- gates one after another from a byte on: that their kinds are read there, that they stand there, and what n of them do
+abbrev pub Kinds : Connective → List ℕ → ℕ → ℕ → Type 0
+Kinds g file at n = (k : ℕ) → k < n → field_of file (at + k * 10 + 2) ≡ gate_kind g
+
+abbrev pub Gates : List ℕ → ℕ → ℕ → ℕ → Type 0
+Gates file at nr n = (k : ℕ) → k < n → Gate file (at + k * 10) nr
+
+unfoldable pub gates_words : Connective → List ℕ → ℕ → ℕ → List ℕ → List ℕ
+gates_words g file at zero rs = rs
+gates_words g file at (suc n) rs = gate_words g file (at + n * 10) (gates_words g file at n rs)
 
 -- what an instruction does at a byte: where the next begins, and the registers and outputs after it
 pub record Does (file : List ℕ) (at : ℕ) (ins rs os : List ℕ) (next : ℕ) (rs' os' : List ℕ) : Type 0 where

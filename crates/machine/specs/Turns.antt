@@ -1,10 +1,10 @@
 -- The turns of a run that goes through bytes: what is left from here ends where the whole ends. Assumes nothing.
 use Prim.Native.Nat.{ℕ, zero, suc, ◌+◌, ◌-◌, ◌≤◌, ◌<◌}
-use Rattle.std.specs.Prelude.{◌≡◌, refl, Bool, true, false, List, ◌∷◌, eqb, length, set, take, drop, replicate}
-use Rattle.std.proofs.Common.{sym, ◌∙◌, add-one, length-set, take_all, take-suc-set}
+use Rattle.std.specs.Prelude.{◌≡◌, refl, List, ◌∷◌, eqb, length, take, drop, replicate}
+use Rattle.std.proofs.Common.{sym, ◌∙◌}
 use Rattle.std.proofs.Math.Path.{ap}
 use native.Mathlib.Omega.{arith}
-use Rattle.std.proofs.lemmas.List.{length-replicate, replicate-append-replicate}
+use Rattle.std.proofs.lemmas.List.{length-replicate}
 use Rattle.std.proofs.Math.Seq.{drop-drop}
 use Rattle.fields.specs.Fields.{field_of}
 use Rattle.programs.specs.Instructions.{length_of}
@@ -13,9 +13,9 @@ use Rattle.programs.specs.declared.description.Instruction.{Instruction}
 use Rattle.machine.specs.Meaning.{word_gates, exec}
 use Rattle.machine.specs.Runs.{steps, run_answer}
 use Rattle.machine.specs.declared.runs.Run.{Run}
-use Rattle.checker.specs.Standing.{read_of, Formed, formed-less, Known, Standing, ReadyAt, Four}
+use Rattle.checker.specs.Standing.{read_of, Formed, formed-less, Known, Standing, ReadyAt}
 use Rattle.checker.specs.Standing.{read_first, some-ready, ready-room, formed-next}
-use Rattle.machine.specs.Steps.{state, Connective, gate_kind, Does}
+use Rattle.machine.specs.Steps.{state, Connective, gate_kind, Kinds, Does}
 
 -- ---- a run under way
 pub record Going (file : List ℕ) (ins rs₀ os₀ : List ℕ) (n₀ from : ℕ) (rs os : List ℕ) (n at : ℕ) : Type 0 where
@@ -111,7 +111,7 @@ module _ {file : List ℕ} {n₀ from : ℕ} {rs₀ : List ℕ} {n at : ℕ} {rs
 
   pub record NextFour (g : Connective) : Type 0 where
     pub some : 3 < n
-    pub kinds : Four file at (gate_kind g)
+    pub kinds : Kinds g file at 4
 
 -- ---- going past instructions
 pub record Past (file : List ℕ) (from n k at : ℕ) : Type 0 where
@@ -172,49 +172,18 @@ read_take (suc m) (suc n) nr ni nq file at l f =
     (ap (λ (is : List Instruction). i ∷ is)
     (read_take m n nr ni nq file (at + length_of i) (omega arith) (formed-next n nr ni nq file at i e f)))
 
--- ---- clearing
-pub record Cleared (i : ℕ) (ws₀ ws : List ℕ) : Type 0 where
-  pub long : length ws ≡ length ws₀
-  pub front : take i ws ≡ replicate i 0
-
-pub cleared-none : (ws : List ℕ) → Cleared 0 ws ws
-cleared-none ws = record { long = refl; front = refl }
-
-pub cleared_more : {i : ℕ} {ws₀ ws : List ℕ} → i < length ws₀ → Cleared i ws₀ ws → Cleared (i + 1) ws₀ (set ws i 0)
-cleared_more {i} {ws₀} {ws} h c =
-    record {
-      long = length-set ws i 0 ∙ c.long;
-      front = rw (add-one i)
-          (take-suc-set ws i 0 (omega (arith, c.long)) ∙ rw c.front (replicate-append-replicate i 1 0 ∙ rw (add-one i)));
-    }
-
-pub cleared-all : {i : ℕ} {ws₀ ws : List ℕ} → length ws₀ ≤ i → i ≤ length ws₀ → Cleared i ws₀ ws → ws ≡ replicate (length ws₀) 0
-cleared-all {i} {ws₀} {ws} a b c =
-    let e : i ≡ length ws₀ = omega arith in
-    sym (take_all i ws (omega (arith, c.long))) ∙ (c.front ∙ rw e)
-
--- what a run begins with: all words 0 for a run that begins afresh
-abbrev pub prepared : Bool → List ℕ → List ℕ
-prepared true ws = replicate (length ws) 0
-prepared false ws = ws
-
-pub prepared-long : (fresh : Bool) (ws ws' : List ℕ) → ws' ≡ prepared fresh ws → length ws' ≡ length ws
-prepared-long true ws ws' e = ap length e ∙ length-replicate (length ws) 0
-prepared-long false ws ws' e = ap length e
-
-module _ (fresh : Bool) (file : List ℕ) (count : ℕ) (ins rs os rs' os' : List ℕ) (position budget : ℕ)
-    (e : rs' ≡ prepared fresh rs) (q : os' ≡ prepared fresh os)
+module _ (file : List ℕ) (count : ℕ) (ins rs os : List ℕ) (position budget : ℕ)
     (f : Formed count (length rs) (length ins) (length os) (drop header_length file))
     (at : ℕ) (p : Past file header_length count position at) (n : ℕ) (is-n : n ≡ steps budget position count) where
-  rest-formed : Formed (count - position) (length rs') (length ins) (length os') (drop at file)
-  rest-formed = p.formed _ _ _ (rw (prepared-long fresh rs rs' e, prepared-long fresh os os' q) f)
+  rest-formed : Formed (count - position) (length rs) (length ins) (length os) (drop at file)
+  rest-formed = p.formed _ _ _ f
 
-  pub run_formed : Formed n (length rs') (length ins) (length os') (drop at file)
+  pub run_formed : Formed n (length rs) (length ins) (length os) (drop at file)
   run_formed = formed-less n (count - position) _ _ _ (drop at file) (omega arith) rest-formed
 
-  pub run_ends : (rs'' os'' : List ℕ) → RunLeaves file at n ins rs' os' rs'' os'' →
-      Ends file count ins (prepared fresh rs) (prepared fresh os) position budget
-      (record { finished = eqb (position + n) count; position = position + n; count = n; budget = budget }) rs'' os''
-  run_ends rs'' os'' c =
+  pub run_ends : (rs' os' : List ℕ) → RunLeaves file at n ins rs os rs' os' →
+      Ends file count ins rs os position budget
+      (record { finished = eqb (position + n) count; position = position + n; count = n; budget = budget }) rs' os'
+  run_ends rs' os' c =
       let same = read_take n (count - position) _ _ _ file at (omega arith) rest-formed in
-      record { answer = rw is-n; left = rw (same, is-n, p.rest, e, q) at c.left }
+      record { answer = rw is-n; left = rw (same, is-n, p.rest) at c.left }

@@ -5,5 +5,5 @@ mod runs;
 mod state;
 mod steps;
 
-pub use runs::{Ran, Run, resume, start};
+pub use runs::{Run, resume, start};
 pub use state::State;

@@ -1,7 +1,7 @@
 -- Sound records are left by an opening and draws: they are opened themselves, and then each signer draws what it has drawn (02, order 9).
 -- Assumes nothing.
 use Prim.Native.Nat.{ℕ, zero, suc, ◌+◌, ◌≤◌, ◌<◌}
-use Rattle.std.specs.Prelude.{◌≡◌, Bool, List, [], ◌≢◌, ltb, length, set}
+use Rattle.std.specs.Prelude.{◌≡◌, Bool, true, false, List, [], ◌≢◌, ltb, length, set}
 use Rattle.std.proofs.Common.{sym, ◌∙◌, ap, subst, ⊎_elim, zero-add, eq-or-lt_of_le, lt_irrefl, add-one, arith, lt-ltb, le-ltb, length-set}
 use Rattle.std.proofs.Common.{ext_get_or, get_or-set_same, get_or-set_other}
 use Rattle.std.proofs.Math.Nat.{add-zero}
@@ -11,13 +11,17 @@ use Rattle.laws.specs.Sums.{sum_mono}
 use Rattle.laws.specs.Lists.{from, upto, length-upto, get_d_upto, upto_from}
 use Rattle.laws.specs.Outcome.{gives}
 use Rattle.pool.specs.Pool.{no_signer, signer_at, claim, sum_of, clear, cleared, drawing, open_of, draw_of, grant}
-use Rattle.pool.specs.Scan.{either_signer}
 use Rattle.pool.specs.Sequences.{Call, draw, Pool, after, after_all, draws_of}
 use Rattle.pool.specs.Sound.{Sized, Sound, opens_iff, sound-opens, drawn_claimed}
 use Rattle.pool.specs.Amounts.{sum-set, claims-are, lack-split, cleared_at, length-cleared}
 use Rattle.pool.specs.Kept.{Granted, draw-gives}
 use Rattle.pool.specs.Calls.{after_granted}
 use Rattle.pool.specs.declared.signers.Signer.{Signer}
+
+-- one of two signers
+abbrev either_signer : Bool → Signer → Signer → Signer
+either_signer true s t = s
+either_signer false s t = t
 
 module _ (W : ℕ) (xs : List Signer) (s : Sound W xs) where
   -- the draw of signer j, and the records once the first k have drawn

@@ -10,5 +10,4 @@ pub mod Left
 pub mod Theorems
 pub mod Scan
 pub mod Scanning
-pub mod Deciding
 pub mod Ways

@@ -1,12 +1,9 @@
 -- 02, order 9: one entropy buffer, several signers. Assumes nothing.
 use Rattle.std.specs.Prelude.{ℕ, ◌+◌, ◌-◌, max, Bool, true, false, ◌||◌, List, map, eqb, leb, ltb, length, get_or, set}
 use Rattle.laws.specs.Sums.{any, sum_to}
-use Rattle.laws.specs.Outcome.{Outcome, refused, gives, refuse, ◌>>◌}
+use Rattle.laws.specs.Outcome.{Outcome, gives, refuse, ◌>>◌}
 use Rattle.fields.specs.Limits.{outside}
-use Rattle.fields.specs.Refusal.{number_of}
 use Rattle.pool.specs.declared.signers.Signer.{Signer}
-use Rattle.pool.specs.declared.deciding.Opened.{Opened}
-use Rattle.pool.specs.declared.deciding.Drawn.{Drawn}
 
 -- a module hosts 1 to 16 signers; W, the number of words, is at most 65,536, and may be 0
 abbrev pub most_signers : ℕ
@@ -116,12 +113,3 @@ unfoldable pub refill_of : ℕ → List Signer → Outcome (List Signer)
 refill_of W xs = do
   records_of W xs
   gives (cleared xs)
-
--- ---- the answers' cases in the papers' numbers and values
-abbrev pub opened_of : Opened → Outcome (Unit {0})
-opened_of (Opened.Refused why) = refused (number_of why)
-opened_of Opened.Open = gives tt
-
-abbrev pub drawn_of : Drawn → Outcome ℕ
-drawn_of (Drawn.Refused why) = refused (number_of why)
-drawn_of (Drawn.Start k) = gives k

@@ -10,6 +10,5 @@ mod deciding;
 mod pools;
 mod signers;
 
-pub use deciding::{Drawn, Opened};
 pub use pools::{draw, open, refill};
 pub use signers::Signer;

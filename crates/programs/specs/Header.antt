@@ -1,13 +1,11 @@
 -- 01, "Files", with 02, order 10: the header of a program, its bytes, and reading one at the front of a file. Assumes nothing.
 use Rattle.std.specs.Prelude.{ℕ, ◌+◌, ◌*◌, ◌/◌, ◌%◌, not, List, [], ◌∷◌, ◌++◌, eqb, ltb, length}
-use Rattle.laws.specs.Outcome.{Outcome, refused, gives, refuse, ◌>>◌}
+use Rattle.laws.specs.Outcome.{Outcome, gives, refuse, ◌>>◌}
 use Rattle.fields.specs.Fields.{field_of}
-use Rattle.fields.specs.Refusal.{number_of}
 use Rattle.programs.specs.Limits.{most_inputs, most_instructions, within_under}
 use Rattle.programs.specs.Records.{record_bytes}
 use Rattle.programs.specs.Instructions.{instruction_bytes}
 use Rattle.programs.specs.declared.description.Program.{Program}
-use Rattle.programs.specs.declared.headers.Checked.{Checked}
 use Rattle.programs.specs.declared.description.Instruction.{Instruction}
 
 -- the length and the kind of a program's header
@@ -77,8 +75,3 @@ code_bytes (i ∷ is) = instruction_bytes i ++ code_bytes is
 -- a program file: the header, then the instructions
 unfoldable pub program_file : Program → List Instruction → List ℕ
 program_file p is = header_bytes p ++ code_bytes is
-
--- ---- the answer's cases in 01's numbers and values
-abbrev pub checked : Checked → Outcome Program
-checked (Checked.Refused why) = refused (number_of why)
-checked (Checked.Program p) = gives p

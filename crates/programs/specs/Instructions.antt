@@ -1,11 +1,9 @@
 -- 01, "Files": the seven instructions, their bytes, and reading one at the front of some bytes. Assumes nothing.
-use Rattle.std.specs.Prelude.{ℕ, ◌+◌, not, cond, List, [], ◌∷◌, eqb, ltb, length, drop}
+use Rattle.std.specs.Prelude.{ℕ, ◌+◌, not, cond, List, [], ◌∷◌, ◌++◌, codes, decimal, eqb, ltb, length, drop}
 use Rattle.laws.specs.Outcome.{Outcome, refused, gives, refuse, ◌>>◌, ◌>>=◌}
 use Rattle.fields.specs.Fields.{field_of}
-use Rattle.fields.specs.Refusal.{number_of}
 use Rattle.programs.specs.Records.{record_bytes}
 use Rattle.programs.specs.declared.description.Instruction.{Instruction}
-use Rattle.programs.specs.declared.instructions.Decoded.{Decoded}
 use Rattle.programs.specs.declared.description.Instruction.TheVariants.{Ones, Zero, Input, Not, And, Or, Output}
 
 -- ---- 01's table: kind, length and operands
@@ -64,6 +62,25 @@ uses (And to a b) = record { reads = a ∷ b ∷ []; writes = to ∷ []; takes =
 uses (Or to a b) = record { reads = a ∷ b ∷ []; writes = to ∷ []; takes = []; sets = [] }
 uses (Output o a) = record { reads = a ∷ []; writes = []; takes = []; sets = o ∷ [] }
 
+-- ---- text
+-- numbers, each after a space
+abbrev pub spaced : List ℕ → List ℕ
+spaced [] = []
+spaced (x ∷ xs) = codes " " ++ decimal x ++ spaced xs
+
+abbrev pub name_of : Instruction → List ℕ
+name_of (Ones to) = codes "ONES"
+name_of (Zero to) = codes "ZERO"
+name_of (Input to n) = codes "INPUT"
+name_of (Not to a) = codes "NOT"
+name_of (And to a b) = codes "AND"
+name_of (Or to a b) = codes "OR"
+name_of (Output o a) = codes "OUTPUT"
+
+-- an instruction as a listing has it: its name, then its operands
+abbrev pub listed : Instruction → List ℕ
+listed i = name_of i ++ spaced (operands_of i)
+
 -- ---- bytes
 -- an instruction: length, kind and operands
 unfoldable pub instruction_bytes : Instruction → List ℕ
@@ -92,8 +109,3 @@ decode_of bytes = do
 -- the instruction at byte `at` of a file
 unfoldable pub decode_at : List ℕ → ℕ → Outcome Instruction
 decode_at file at = decode_of (drop at file)
-
--- ---- the answer's cases in 01's numbers and values
-abbrev pub decoded : Decoded → Outcome Instruction
-decoded (Decoded.Refused why) = refused (number_of why)
-decoded (Decoded.Instruction i) = gives i

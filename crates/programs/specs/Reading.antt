@@ -1,5 +1,5 @@
 -- The ways through the checks of an instruction and of a header, and what the limits say. Assumes nothing.
-use Rattle.std.specs.Prelude.{ℕ, ◌+◌, ◌-◌, ◌*◌, ◌/◌, ◌%◌, ◌^◌, ◌≤◌, ◌<◌, ◌≡◌, Bool, ◌&&◌, List, [], ◌∷◌, eqb, ltb, length, take, drop}
+use Rattle.std.specs.Prelude.{ℕ, ◌+◌, ◌-◌, ◌*◌, ◌^◌, ◌≤◌, ◌<◌, ◌≡◌, Bool, ◌&&◌, List, ◌∷◌, eqb, ltb, length, take, drop}
 use Rattle.std.proofs.Math.Path.{refl}
 use Rattle.std.proofs.Common.{sym, ap, ◌∙◌, length-drop}
 use Rattle.std.proofs.Math.Bool.{true, false, cond}
@@ -9,12 +9,12 @@ use Rattle.laws.specs.Tests.{both, neither}
 use Rattle.laws.specs.Lists.{rest_is}
 use Rattle.laws.specs.Lay.{lay_at, lay_at-nothing}
 use Rattle.laws.specs.Outcome.{Outcome, refused, gives, mapped, laid, ◌>>=◌}
-use Rattle.fields.specs.Fields.{field_of, field_bytes}
+use Rattle.fields.specs.Fields.{field_of}
 use Rattle.fields.specs.Limits.{outside}
 use Rattle.programs.specs.Width.{row_bits, ranged, few_bits}
 use Rattle.programs.specs.Limits.{most_registers, most_inputs, most_outputs, most_rows, most_instructions}
 use Rattle.programs.specs.Limits.{among, value_bits, suited, within_under, within}
-use Rattle.programs.specs.Records.{record_bytes, length_record, field-after}
+use Rattle.programs.specs.Records.{record_bytes, length_record}
 use Rattle.programs.specs.Instructions.{of_kind, sized_of, kind_of, length_of, operands_of, instruction_bytes, encode_of, decode_of}
 use Rattle.programs.specs.Instructions.{decode_at}
 use Rattle.programs.specs.Header.{header_length, header_kind, header_bytes, numbers_of}
@@ -226,23 +226,3 @@ module _ (p : Program) (room : ℕ) where
   pub write_header-gives : within p ≡ true → header_length ≤ room → write_header_of p room ≡ gives (header_bytes p)
   unfolding write_header_under
   write_header-gives w h = rw (w, le-ltb room header_length h)
-
--- a header is stored field by field: five fields of a record, then the rows, then the count's two
-pub header-stored : (p : Program) (buf b1 b2 b3 b4 : List ℕ) →
-    b1 ≡ lay_at 0 (record_bytes (header_length ∷ header_kind ∷ p.registers ∷ p.inputs ∷ p.outputs ∷ [])) buf →
-    b2 ≡ lay_at 10 (field_bytes p.rows) b1 → b3 ≡ lay_at 12 (field_bytes (p.count % 65536)) b2 →
-    b4 ≡ lay_at 14 (field_bytes (p.count / 65536)) b3 → header_length ≤ length buf → b4 ≡ lay_at 0 (header_bytes p) buf
-unfolding header_bytes
-header-stored p buf b1 b2 b3 b4 e1 e2 e3 e4 h =
-    field-after _ _ _ seven _ _ _ _
-    (field-after _ _ _ six seven _ _ _ (field-after _ _ _ five six _ _ _ e1 e2 refl refl (omega arith)) e3 refl refl (omega arith)) e4 refl
-    refl h
-  where
-    five : List ℕ
-    five = header_length ∷ header_kind ∷ p.registers ∷ p.inputs ∷ p.outputs ∷ []
-
-    six : List ℕ
-    six = header_length ∷ header_kind ∷ p.registers ∷ p.inputs ∷ p.outputs ∷ p.rows ∷ []
-
-    seven : List ℕ
-    seven = header_length ∷ header_kind ∷ p.registers ∷ p.inputs ∷ p.outputs ∷ p.rows ∷ p.count % 65536 ∷ []

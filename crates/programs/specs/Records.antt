@@ -1,8 +1,9 @@
 -- 01, "Files": a record is a row of 16-bit fields. Assumes nothing.
-use Rattle.std.specs.Prelude.{ℕ, ◌+◌, ◌*◌, ◌/◌, ◌%◌, ◌≤◌, ◌≡◌, refl, List, [], ◌∷◌, ◌++◌, length}
-use Rattle.std.proofs.Common.{ap, arith}
-use Rattle.laws.specs.Lay.{lay_at, lay_at-after}
-use Rattle.fields.specs.Fields.{field_bytes}
+use Rattle.std.specs.Prelude.{ℕ, ◌+◌, ◌*◌, ◌/◌, ◌%◌, ◌≤◌, ◌<◌, ◌≡◌, refl, List, [], ◌∷◌, ◌++◌, length, get_or, take, set}
+use Rattle.std.proofs.Common.{sym, ap, ◌∙◌, arith, length-take-le}
+use Rattle.std.proofs.lemmas.List.{take_more}
+use Rattle.laws.specs.Lay.{Laid, laid-after}
+use Rattle.fields.specs.Fields.{field_bytes, field-laid}
 
 -- the bytes of a record's fields
 unfoldable pub record_bytes : List ℕ → List ℕ
@@ -20,16 +21,15 @@ unfolding record_bytes
 record_snoc [] x = refl
 record_snoc (y ∷ ys) x = ap (λ (z : List ℕ). y % 256 ∷ y / 256 ∷ z) (record_snoc ys x)
 
--- code that writes a record field by field: one field more behind those that are laid at `at`
-pub field-after : (at k x : ℕ) (xs zs buf now now' : List ℕ) → now ≡ lay_at at (record_bytes xs) buf → now' ≡ lay_at k (field_bytes x) now →
-    zs ≡ xs ++ x ∷ [] → k ≡ at + 2 * length xs → k + 2 ≤ length buf → now' ≡ lay_at at (record_bytes zs) buf
-field-after at k x xs zs buf now now' q r z e h =
-    let seam : at + length (record_bytes xs) ≡ k = omega (arith, length_record xs) in
-    rw (z, record_snoc xs x, r, q, ← seam) (lay_at-after at (record_bytes xs) (field_bytes x) buf (omega arith))
-
-pub three_fields : (at x y z : ℕ) (buf b1 b2 b3 : List ℕ) → b1 ≡ lay_at at (field_bytes x) buf → b2 ≡ lay_at (at + 2) (field_bytes y) b1 →
-    b3 ≡ lay_at (at + 4) (field_bytes z) b2 → at + 6 ≤ length buf → b3 ≡ lay_at at (record_bytes (x ∷ y ∷ z ∷ [])) buf
-unfolding record_bytes
-three_fields at x y z buf b1 b2 b3 e1 e2 e3 h =
-    field-after at (at + 4) z (x ∷ y ∷ []) (x ∷ y ∷ z ∷ []) buf b2 b3
-    (field-after at (at + 2) y (x ∷ []) (x ∷ y ∷ []) buf b1 b2 e1 e2 refl refl (omega arith)) e3 refl refl (omega arith)
+-- code that stores a record field by field: the next of the fields xs, its two bytes behind those that are laid at `at`
+pub field_next : (at i : ℕ) (xs buf now bytes : List ℕ) → i < length xs → at + 2 * length xs ≤ length buf →
+    bytes ≡ field_bytes (get_or xs i 0) → Laid at (record_bytes (take i xs)) buf now →
+    Laid at (record_bytes (take (i + 1) xs)) buf (set (set now (at + 2 * i) (get_or bytes 0 0)) (at + 2 * i + 1) (get_or bytes 1 0))
+field_next at i xs buf now bytes h room e l =
+    let x : ℕ = get_or xs i 0 in
+    let front : at + length (record_bytes (take i xs)) ≡ at + 2 * i = omega (arith, length_record (take i xs), length-take-le i xs) in
+    let next : record_bytes (take (i + 1) xs) ≡ record_bytes (take i xs) ++ field_bytes x =
+    ap record_bytes (take_more xs i 0 h) ∙ record_snoc (take i xs) x in
+    let stored = field-laid now (at + 2 * i) (x % 256) (x / 256) (omega (arith, l.long)) in
+    rw (e, next)
+    (laid-after at (at + 2 * i) (record_bytes (take i xs)) (field_bytes x) buf now _ (sym front) (omega (arith, l.long)) stored l)

@@ -1,9 +1,10 @@
 // What a program is made of, within which limits, and what a check of one keeps (01, "Files"; 02, order 10).
 ghost use Rattle.std.specs.Prelude.{◌≡◌};
-ghost use Rattle.programs.specs.Limits.{among, unset, unwritten, within};
+ghost use Rattle.programs.specs.Limits.{unset, unwritten, within};
 ghost use Rattle.programs.specs.Instructions.{length_of};
 
 use crate::rows::suited;
+use fields::outside;
 
 // The numbers of a program's header.
 #[derive(Clone, Copy)]
@@ -27,13 +28,6 @@ pub enum Instruction {
     Output(u16, u16),
 }
 
-// Whether a number is 1 to `most`.
-pub(crate) fn among(most: usize, x: usize) -> bool
-    ensures { result ≡ among most x }
-{
-    !((x < 1) | (most < x))
-}
-
 impl Program {
     // The most registers, inputs, outputs, rows and instructions. Those of inputs and instructions were raised by 02, order 8.
     pub const REGISTERS: usize = 1024;
@@ -55,16 +49,17 @@ impl Program {
     pub fn within(self) -> bool
         ensures { result ≡ within self }
     {
-        among(Program::REGISTERS, self.registers)
-            & among(Program::INPUTS, self.inputs)
-            & among(Program::OUTPUTS, self.outputs)
+        !outside(Program::REGISTERS, self.registers)
+            & !outside(Program::INPUTS, self.inputs)
+            & !outside(Program::OUTPUTS, self.outputs)
             & suited(self.rows, self.outputs)
             & (self.count <= Program::INSTRUCTIONS)
     }
 }
 
 impl Instruction {
-    // The kinds.
+    // The kinds as files number them. Numbers, since the loops of the check and of the runs compare those in a file; the enum of the kinds
+    // is `Instruction`, which a second one would repeat.
     pub const KIND_ONES: usize = 1;
 
     pub const KIND_ZERO: usize = 2;
@@ -91,13 +86,9 @@ impl Instruction {
         ensures { result ≡ length_of self }
     {
         match self {
-            Instruction::Ones(_) => Instruction::LENGTH_ONE,
-            Instruction::Zero(_) => Instruction::LENGTH_ONE,
-            Instruction::Input(_, _) => Instruction::LENGTH_TWO,
-            Instruction::Not(_, _) => Instruction::LENGTH_TWO,
-            Instruction::And(_, _, _) => Instruction::LENGTH_THREE,
-            Instruction::Or(_, _, _) => Instruction::LENGTH_THREE,
-            Instruction::Output(_, _) => Instruction::LENGTH_TWO,
+            Self::Ones(_) | Self::Zero(_) => Self::LENGTH_ONE,
+            Self::Input(..) | Self::Not(..) | Self::Output(..) => Self::LENGTH_TWO,
+            Self::And(..) | Self::Or(..) => Self::LENGTH_THREE,
         }
     }
 }
@@ -119,4 +110,11 @@ impl Seen {
             set: [false; Program::OUTPUTS],
         }
     }
+}
+
+// Where a pass over instructions is: the byte of the next one, and how many are still to come.
+#[derive(Clone, Copy)]
+pub struct Left {
+    pub at: usize,
+    pub more: usize,
 }

@@ -2,9 +2,11 @@
 ghost use Rattle.std.specs.Prelude.{◌≡◌};
 ghost use Rattle.programs.specs.Limits.{suited, value_bits};
 
-use crate::description::{Program, among};
+use crate::description::Program;
+use fields::outside;
 
-// k, the bits needed to write rows - 1, by the cases of 02, order 6; 0 for rows that are not 1 to 128.
+// k, the bits needed to write rows - 1; 0 for rows that are not 1 to 128. By the cases that 02, order 6 lists, which a formula of leading
+// zeros would hide.
 pub fn row_bits(rows: usize) -> usize
     ensures { result ≡ value_bits rows }
 {
@@ -25,5 +27,5 @@ pub fn row_bits(rows: usize) -> usize
 pub fn suited(rows: usize, outputs: usize) -> bool
     ensures { result ≡ suited rows outputs }
 {
-    among(Program::ROWS, rows) & (outputs == 1 + row_bits(rows))
+    !outside(Program::ROWS, rows) & (outputs == 1 + row_bits(rows))
 }

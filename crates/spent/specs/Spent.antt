@@ -1,15 +1,13 @@
 -- 02, order 1: what the walks of a matrix file on 64 strings have used together. Assumes nothing.
 use Rattle.std.specs.Prelude.{ℕ, List}
 use Rattle.laws.specs.Sums.{sum_to}
-use Rattle.laws.specs.Outcome.{Outcome, refused, gives, ◌>>◌, ◌>>=◌}
-use Rattle.fields.specs.Refusal.{number_of}
+use Rattle.laws.specs.Outcome.{Outcome, gives, ◌>>◌, ◌>>=◌}
 use Rattle.fields.specs.Limits.{most_columns}
 use Rattle.fields.specs.Strings.{strings_under}
 use Rattle.files.specs.Matrix.{Matrix}
 use Rattle.files.specs.Files.{matrix_under}
 use Rattle.walk.specs.Walk.{drawn, used}
 use Rattle.lanes.specs.Slicing.{lanes, string_bits}
-use Rattle.spent.specs.declared.Total.{Total}
 
 -- the columns that the walk of a matrix on string j has used
 abbrev pub used_on : Matrix → List ℕ → ℕ → ℕ
@@ -26,8 +24,3 @@ spent_under most file strings = do
 -- at the limit of columns
 abbrev pub spent_of : List ℕ → List ℕ → Outcome ℕ
 spent_of = spent_under most_columns
-
--- the answer's cases in 01's numbers and values
-abbrev pub totalled : Total → Outcome ℕ
-totalled (Total.Refused why) = refused (number_of why)
-totalled (Total.Columns total) = gives total

@@ -1,16 +1,20 @@
 -- The ways through the checks: each refusal, and what is added up from the rows in the file. Assumes nothing.
-use Rattle.std.specs.Prelude.{ℕ, ◌*◌, ◌≤◌, ◌≡◌, List}
+use Rattle.std.specs.Prelude.{ℕ, ◌*◌, ◌^◌, ◌≤◌, ◌<◌, ◌≡◌, List, sum_by}
+use Rattle.std.specs.List.{range_with_len}
+use Rattle.std.proofs.Common.{arith}
 use Rattle.std.proofs.Math.Path.{ap, fun_ext}
-use Rattle.laws.specs.Sums.{sum_to}
+use Rattle.laws.specs.Sums.{sum_to, sum-le}
 use Rattle.laws.specs.Outcome.{refused, gives, ◌>>◌, mapped, mapped-gives, mapped-refused}
 use Rattle.fields.specs.Fields.{width, field_of}
 use Rattle.fields.specs.Strings.{strings_of}
-use Rattle.files.specs.Matrix.{Matrix, Sizes, sizes}
+use Rattle.files.specs.declared.headers.Sizes.{Sizes}
+use Rattle.files.specs.Matrix.{Matrix, sizes}
 use Rattle.files.specs.Files.{matrix_of}
 use Rattle.files.specs.Checks.{header-says, matrix_read}
 use Rattle.walk.specs.Walk.{used, used_at}
 use Rattle.walk.specs.Ways.{draw_at_is}
 use Rattle.walk.specs.Used.{used_at_most}
+use Rattle.walk.specs.Ranges.{sum_range}
 use Rattle.lanes.specs.Slicing.{lanes}
 use Rattle.spent.specs.Spent.{used_on, spent_under, spent_of}
 
@@ -18,13 +22,17 @@ use Rattle.spent.specs.Spent.{used_on, spent_under, spent_of}
 abbrev pub used_by : List ℕ → List ℕ → ℕ → ℕ
 used_by file strings j = used_at file strings (j * width (field_of file 6))
 
--- ---- one string after another
-pub walk_adds : (file strings : List ℕ) (w j x : ℕ) → w ≡ width (field_of file 6) → x ≡ used_at file strings (j * w) →
-    x ≡ used_by file strings j
-walk_adds file strings w j x a b = rw (b, a)
+-- ---- the strings one after another, each from byte j * w on, as the library's iterators add up what their walks have used
+pub walks_add_up : (file strings : List ℕ) (w : ℕ) → w ≡ width (field_of file 6) →
+    sum_by (λ j. used_at file strings (j * w)) (range_with_len 0 lanes) ≡ sum_to lanes (used_by file strings)
+walks_add_up file strings w e = rw e (sum_range lanes (used_by file strings))
 
-pub walk_fits : (file strings : List ℕ) (n at x : ℕ) → n ≡ field_of file 6 → x ≡ used_at file strings at → x ≤ n
-walk_fits file strings n at x a b = rw (a, b) (used_at_most file strings at)
+pub walks_fit : (file strings : List ℕ) (w n : ℕ) → w ≡ width (field_of file 6) → n ≡ field_of file 6 → n < 65536 →
+    sum_by (λ j. used_at file strings (j * w)) (range_with_len 0 lanes) < 2 ^ 64
+walks_fit file strings w n e q h =
+    let many : sum_to lanes (used_by file strings) ≤ lanes * field_of file 6 =
+    sum-le lanes (field_of file 6) (used_by file strings) (λ j l. used_at_most file strings (j * width (field_of file 6))) in
+    omega (arith, walks_add_up file strings w e, many, q, h)
 
 -- ---- the file
 module _ (file strings : List ℕ) where

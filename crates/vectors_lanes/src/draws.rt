@@ -1,67 +1,69 @@
 // The cases of draws.
-use crate::samples::{FILL_SAMPLE, SAMPLES, print_all_signed, print_sampled, print_signed};
-use case_lines::answers::{FILL, begin, print_laid, refuse};
-use case_lines::lines::BYTES;
-use case_lines::parsing::{field, least, number, size, take_bytes};
+use crate::samples::{SAMPLES, print_samples};
+use case_lines::answers::{print_answer, refuse};
+use case_lines::cases::Case;
+use case_lines::lent::Lent;
+use case_lines::{BYTES, PROGRAM};
 use drawing::{draw, draw_signed};
-use fields::Written;
-use lanes::{LANES, Sampled};
+use lanes::LANES;
+use std::alloc::Global;
 use std::io;
 use std::io::Write;
 
 // PROGRAM STRINGS samples-lent
-pub(crate) fn draw_case<W: Write>(out: &mut W, line: &[u8]) -> io::Result<()> {
-    let mut program = [0u8; BYTES];
-    let n = take_bytes(field(line, 1), &mut program);
-    let mut strings = [0u8; BYTES];
-    let s = take_bytes(field(line, 2), &mut strings);
-    let mut samples = [FILL; SAMPLES];
-    let lent = least(size(field(line, 3)), SAMPLES);
-    let answer = draw(&program[..n], &strings[..s], &mut samples[0..lent]);
-    print_sampled(out, answer, &samples)
+pub(crate) fn draw_case<W: Write>(out: &mut W, case: Case) -> io::Result<()> {
+    let program: Vec<u8> = case.list(1, BYTES)?;
+    let strings: Vec<u8> = case.list(2, BYTES)?;
+    let mut samples: Lent<u8> = case.lent(3, SAMPLES)?;
+    let answer = draw(&program, &strings, samples.lend());
+    print_samples(out, answer, &samples)
 }
 
+// Beside the plain case, as with samples: one for both would take the operation as a closure, and each is five lines.
+//
 // PROGRAM STRINGS sign samples-lent
-pub(crate) fn draw_signed_case<W: Write>(out: &mut W, line: &[u8]) -> io::Result<()> {
-    let mut program = [0u8; BYTES];
-    let n = take_bytes(field(line, 1), &mut program);
-    let mut strings = [0u8; BYTES];
-    let s = take_bytes(field(line, 2), &mut strings);
-    let sign = number(field(line, 3));
-    let mut samples = [FILL_SAMPLE; SAMPLES];
-    let lent = least(size(field(line, 4)), SAMPLES);
-    let answer = draw_signed(&program[..n], &strings[..s], sign, &mut samples[0..lent]);
-    print_signed(out, answer, &samples)
+pub(crate) fn draw_signed_case<W: Write>(out: &mut W, case: Case) -> io::Result<()> {
+    let program: Vec<u8> = case.list(1, BYTES)?;
+    let strings: Vec<u8> = case.list(2, BYTES)?;
+    let mut samples: Lent<i16> = case.lent(4, SAMPLES)?;
+    let answer = draw_signed(&program, &strings, case.number(3), samples.lend());
+    print_samples(out, answer, &samples)
 }
 
 // Draws samples and signed samples of 64 strings.
-fn draws<W: Write>(out: &mut W, program: &[u8], strings: &[u8], sign: u64) -> io::Result<()> {
-    let mut samples = [FILL; SAMPLES];
-    let mut signed = [FILL_SAMPLE; SAMPLES];
-    match draw(program, strings, &mut samples) {
-        Sampled::Refused(why) => refuse(out, why),
-        Sampled::All => match draw_signed(program, strings, sign, &mut signed) {
-            Sampled::Refused(why) => refuse(out, why),
-            Sampled::All => {
-                begin(out)?;
-                print_laid(out, &samples, LANES)?;
-                print_all_signed(out, &signed)
-            }
-        },
+fn draws<W: Write>(
+    out: &mut W,
+    alloc: Global,
+    program: &[u8],
+    strings: &[u8],
+    sign: u64,
+) -> io::Result<()> {
+    let mut samples: Lent<u8> = Lent::filled(alloc, SAMPLES, SAMPLES)?;
+    let mut signed: Lent<i16> = Lent::filled(alloc, SAMPLES, SAMPLES)?;
+    let answer = draw(program, strings, samples.lend()).and_then(|()| draw_signed(
+        program,
+        strings,
+        sign,
+        signed.lend(),
+    ));
+    print_answer(out, answer.map(|()| []))?;
+    if answer.is_ok() {
+        samples.print(out, Some(LANES))?;
+        signed.print(out, Some(LANES))?;
     }
+    Ok(())
 }
 
 // FILE STRINGS sign
-pub(crate) fn draws_case<W: Write>(out: &mut W, line: &[u8], program: &mut [u8]) -> io::Result<()> {
-    let mut file = [0u8; BYTES];
-    let n = take_bytes(field(line, 1), &mut file);
-    let mut strings = [0u8; BYTES];
-    let s = take_bytes(field(line, 2), &mut strings);
-    match compiler::compile(&file[..n], program) {
-        Written::Refused(why) => refuse(out, why),
-        Written::Length(length) => {
-            let p = least(length, program.len());
-            draws(out, &program[0..p], &strings[..s], number(field(line, 3)))
+pub(crate) fn draws_case<W: Write>(out: &mut W, case: Case) -> io::Result<()> {
+    let file: Vec<u8> = case.list(1, BYTES)?;
+    let strings: Vec<u8> = case.list(2, BYTES)?;
+    let mut program = vec![in case.alloc(); 0u8; PROGRAM]?;
+    match compiler::compile(&file, &mut program) {
+        Err(why) => refuse(out, why),
+        Ok(n) => {
+            program.truncate(n);
+            draws(out, case.alloc(), &program, &strings, case.number(3))
         }
     }
 }

@@ -1,79 +1,67 @@
-// What is printed of samples.
-ghost use Rattle.std.specs.Prelude.{◌≡◌, length};
-
-use case_lines::answers::{begin, print_laid, print_word_digits, refuse, see_bytes, see_words};
-use lanes::{LANES, Sampled};
+// The cases of slicing, of samples, and of four lists combined.
+use case_lines::BYTES;
+use case_lines::answers::print_answer;
+use case_lines::cases::Case;
+use case_lines::elements::Element;
+use case_lines::lent::Lent;
+use fields::Refusal;
+use lanes::LANES;
 use std::io;
 use std::io::Write;
 
 // Room for samples that are lent.
 pub(crate) const SAMPLES: usize = 96;
 
-// What fills signed samples before they are lent.
-pub(crate) const FILL_SAMPLE: i16 = 0x5aa5;
+// Room for words that are lent.
+const WORDS: usize = 224;
 
-const FILL_PATTERN: u64 = 0x5aa5;
-
-// The 16 bits of a signed sample, as a number: those of a negative one are the complement of its complement.
-fn pattern(x: i16) -> u64 {
-    if x < 0 { 65535 - (!x) as u64 } else { x as u64 }
+// columns STRINGS words-lent
+pub(crate) fn slice_case<W: Write>(out: &mut W, case: Case) -> io::Result<()> {
+    let strings: Vec<u8> = case.list(2, BYTES)?;
+    let mut words: Lent<u64> = case.lent(3, WORDS)?;
+    let answer = lanes::slice(case.size(1), &strings, words.lend());
+    print_answer(out, answer.map(|_| []))?;
+    words.print(out, answer.ok())
 }
 
-// The patterns of samples.
-fn patterns(samples: &[i16; SAMPLES]) -> [u64; SAMPLES]
-    ensures { 96 ≡ length result }
-{
-    let mut words = [0u64; SAMPLES];
-    for k in 0..SAMPLES {
-        words[k] = pattern(samples[k]);
-    }
-    words
-}
-
-// Sees that samples are as they were filled, from place `from` on.
-fn see_signed<W: Write>(out: &mut W, samples: &[i16; SAMPLES], from: usize) -> io::Result<()> {
-    let words = patterns(samples);
-    let before = [FILL_PATTERN; SAMPLES];
-    see_words(out, &words, &before, from)
-}
-
-// The samples of all lanes. What stands behind them must be as it was filled.
-pub(crate) fn print_all_signed<W: Write>(out: &mut W, samples: &[i16; SAMPLES]) -> io::Result<()> {
-    let words = patterns(samples);
-    print_word_digits(out, &words[0..LANES], 4)?;
-    see_signed(out, samples, LANES)
-}
-
-pub(crate) fn print_sampled<W: Write>(
+// Samples of all lanes, or a refusal.
+pub(crate) fn print_samples<T: Element, W: Write>(
     out: &mut W,
-    answer: Sampled,
-    samples: &[u8; SAMPLES],
+    answer: Result<(), Refusal>,
+    samples: &Lent<T>,
 ) -> io::Result<()> {
-    match answer {
-        Sampled::Refused(why) => {
-            refuse(out, why)?;
-            see_bytes(out, samples)
-        }
-        Sampled::All => {
-            begin(out)?;
-            print_laid(out, samples, LANES)
-        }
-    }
+    print_answer(out, answer.map(|()| []))?;
+    samples.print(out, answer.ok().map(|()| LANES))
 }
 
-pub(crate) fn print_signed<W: Write>(
-    out: &mut W,
-    answer: Sampled,
-    samples: &[i16; SAMPLES],
-) -> io::Result<()> {
-    match answer {
-        Sampled::Refused(why) => {
-            refuse(out, why)?;
-            see_signed(out, samples, 0)
-        }
-        Sampled::All => {
-            begin(out)?;
-            print_all_signed(out, samples)
-        }
-    }
+// The cases of signed samples and draws stay beside those of plain ones: the operation and its sign would have to be a closure in one
+// function for both, and each is five lines.
+//
+// rows OUTPUTS samples-lent
+pub(crate) fn samples_case<W: Write>(out: &mut W, case: Case) -> io::Result<()> {
+    let outputs: Vec<u64> = case.list(2, 16)?;
+    let mut samples: Lent<u8> = case.lent(3, SAMPLES)?;
+    let answer = lanes::samples(case.size(1), &outputs, samples.lend());
+    print_samples(out, answer, &samples)
+}
+
+// rows OUTPUTS sign samples-lent
+pub(crate) fn signed_samples_case<W: Write>(out: &mut W, case: Case) -> io::Result<()> {
+    let outputs: Vec<u64> = case.list(2, 16)?;
+    let mut samples: Lent<i16> = case.lent(4, SAMPLES)?;
+    let answer = lanes::signed_samples(case.size(1), &outputs, case.number(3), samples.lend());
+    print_samples(out, answer, &samples)
+}
+
+// X1 X2 X3 X4 first second results-lent
+pub(crate) fn combine_case<W: Write>(out: &mut W, case: Case) -> io::Result<()> {
+    let x1: Vec<i16> = case.list(1, SAMPLES)?;
+    let x2: Vec<i16> = case.list(2, SAMPLES)?;
+    let x3: Vec<i16> = case.list(3, SAMPLES)?;
+    let x4: Vec<i16> = case.list(4, SAMPLES)?;
+    let first = case.short(5);
+    let second = case.short(6);
+    let mut results: Lent<i32> = case.lent(7, SAMPLES)?;
+    let answer = combining::combine(&x1, &x2, &x3, &x4, first, second, results.lend());
+    print_samples(out, answer, &results)
 }

@@ -1,178 +1,102 @@
 // The cases of matrix files.
-use case_lines::answers::{FILL, begin, print_laid, print_size, print_written, refuse, see_bytes};
-use case_lines::lines::BYTES;
-use case_lines::parsing::{field, least, size, take_bytes, take_shorts};
-use fields::Written;
-use files::Checked;
-use spent::Total;
+use case_lines::answers::{print_answer, print_written};
+use case_lines::cases::Case;
+use case_lines::lent::Lent;
+use case_lines::{BYTES, PROGRAM};
+use files::Sizes;
 use std::io;
 use std::io::Write;
-use walk::Walked;
-use wanted::Wanted;
 use weights::Usage;
 
 // Room for entries that are lent.
 const ENTRIES: usize = 24_640;
 
-// m × n of a matrix.
-fn product(m: usize, n: usize) -> usize {
-    least(m, files::ROWS) * least(n, fields::COLUMNS)
-}
+// What a miss is printed as.
+const MISS: usize = 255;
 
-fn print_read<W: Write>(out: &mut W, answer: Checked, entries: &[u8; ENTRIES]) -> io::Result<()> {
-    match answer {
-        Checked::Refused(why) => {
-            refuse(out, why)?;
-            see_bytes(out, entries)
-        }
-        Checked::Matrix { rows, columns } => {
-            begin(out)?;
-            print_size(out, rows)?;
-            print_size(out, columns)?;
-            print_laid(out, entries, product(rows, columns))
-        }
-    }
+// m × n of a matrix.
+fn product(sizes: Sizes) -> usize {
+    sizes.rows.min(files::ROWS) * sizes.columns.min(fields::COLUMNS)
 }
 
 // FILE entries-lent
-pub(crate) fn read_case<W: Write>(out: &mut W, line: &[u8]) -> io::Result<()> {
-    let mut file = [0u8; BYTES];
-    let n = take_bytes(field(line, 1), &mut file);
-    let mut entries = [FILL; ENTRIES];
-    let lent = least(size(field(line, 2)), ENTRIES);
-    let answer = files::read(&file[..n], &mut entries[0..lent]);
-    print_read(out, answer, &entries)
-}
-
-fn print_matrix<W: Write>(out: &mut W, answer: Written, file: &[u8; BYTES]) -> io::Result<()> {
-    print_written(out, answer, file)
+pub(crate) fn read_case<W: Write>(out: &mut W, case: Case) -> io::Result<()> {
+    let file: Vec<u8> = case.list(1, BYTES)?;
+    let mut entries: Lent<u8> = case.lent(2, ENTRIES)?;
+    let answer = files::read(&file, entries.lend());
+    print_answer(out, answer.map(|sizes| [sizes.rows, sizes.columns]))?;
+    entries.print(out, answer.ok().map(product))
 }
 
 // rows columns ENTRIES file-lent
-pub(crate) fn write_case<W: Write>(out: &mut W, line: &[u8]) -> io::Result<()> {
-    let rows = size(field(line, 1));
-    let columns = size(field(line, 2));
-    let mut entries = [0u8; BYTES];
-    let n = take_bytes(field(line, 3), &mut entries);
-    let mut file = [FILL; BYTES];
-    let lent = least(size(field(line, 4)), BYTES);
-    let answer = files::write(rows, columns, &entries[..n], &mut file[0..lent]);
-    print_matrix(out, answer, &file)
+pub(crate) fn write_case<W: Write>(out: &mut W, case: Case) -> io::Result<()> {
+    let sizes = Sizes {
+        rows: case.size(1),
+        columns: case.size(2),
+    };
+    let entries: Vec<u8> = case.list(3, BYTES)?;
+    let mut file: Lent<u8> = case.lent(4, BYTES)?;
+    let answer = files::write(sizes, &entries, file.lend());
+    print_written(out, answer, &file)
 }
 
-// What weights serve: 0 is plain use.
-fn usage(signed: usize) -> Usage {
-    if signed == 0 {
+// WEIGHTS columns signed file-lent; for plain use, signed is 0
+pub(crate) fn build_case<W: Write>(out: &mut W, case: Case) -> io::Result<()> {
+    let numbers: Vec<u32> = case.list(1, 256)?;
+    let usage = if case.size(3) == 0 {
         Usage::Plain
     } else {
         Usage::Signed
-    }
-}
-
-// WEIGHTS columns signed file-lent
-pub(crate) fn build_case<W: Write>(out: &mut W, line: &[u8]) -> io::Result<()> {
-    let mut numbers = [0u32; 256];
-    let n = take_shorts(field(line, 1), &mut numbers);
-    let columns = size(field(line, 2));
-    let signed = usage(size(field(line, 3)));
-    let mut file = [FILL; BYTES];
-    let lent = least(size(field(line, 4)), BYTES);
-    let answer = weights::build(&numbers[..n], columns, signed, &mut file[0..lent]);
-    print_matrix(out, answer, &file)
-}
-
-fn print_walked<W: Write>(out: &mut W, answer: Walked) -> io::Result<()> {
-    match answer {
-        Walked::Refused(why) => refuse(out, why),
-        Walked::Hit { row, used } => {
-            begin(out)?;
-            print_size(out, row)?;
-            print_size(out, used)
-        }
-        Walked::Miss { used } => {
-            begin(out)?;
-            print_size(out, 255)?;
-            print_size(out, used)
-        }
-    }
+    };
+    let mut file: Lent<u8> = case.lent(4, BYTES)?;
+    let answer = weights::build(&numbers, case.size(2), usage, file.lend());
+    print_written(out, answer, &file)
 }
 
 // FILE STRING
-pub(crate) fn walk_case<W: Write>(out: &mut W, line: &[u8]) -> io::Result<()> {
-    let mut file = [0u8; BYTES];
-    let n = take_bytes(field(line, 1), &mut file);
-    let mut string = [0u8; BYTES];
-    let s = take_bytes(field(line, 2), &mut string);
-    print_walked(out, walk::walk(&file[..n], &string[..s]))
-}
-
-fn print_spent<W: Write>(out: &mut W, answer: Total) -> io::Result<()> {
-    match answer {
-        Total::Refused(why) => refuse(out, why),
-        Total::Columns(total) => {
-            begin(out)?;
-            print_size(out, total)
-        }
-    }
+pub(crate) fn walk_case<W: Write>(out: &mut W, case: Case) -> io::Result<()> {
+    let file: Vec<u8> = case.list(1, BYTES)?;
+    let string: Vec<u8> = case.list(2, BYTES)?;
+    let answer = walk::walk(&file, &string);
+    print_answer(out, answer.map(|w| [w.row.unwrap_or(MISS), w.used]))
 }
 
 // FILE STRINGS
-pub(crate) fn spent_case<W: Write>(out: &mut W, line: &[u8]) -> io::Result<()> {
-    let mut file = [0u8; BYTES];
-    let n = take_bytes(field(line, 1), &mut file);
-    let mut strings = [0u8; BYTES];
-    let s = take_bytes(field(line, 2), &mut strings);
-    print_spent(out, spent::spent(&file[..n], &strings[..s]))
+pub(crate) fn spent_case<W: Write>(out: &mut W, case: Case) -> io::Result<()> {
+    let file: Vec<u8> = case.list(1, BYTES)?;
+    let strings: Vec<u8> = case.list(2, BYTES)?;
+    let answer = spent::spent(&file, &strings);
+    print_answer(out, answer.map(|total| [total]))
 }
 
-// A string has as many bytes as the columns of its file take.
-fn print_wanted<W: Write>(
-    out: &mut W,
-    answer: Wanted,
-    string: &[u8; BYTES],
-    laid: usize,
-) -> io::Result<()> {
-    match answer {
-        Wanted::Refused(why) => {
-            refuse(out, why)?;
-            see_bytes(out, string)
-        }
-        Wanted::None => {
-            begin(out)?;
-            print_size(out, 0)?;
-            print_laid(out, string, 0)
-        }
-        Wanted::Found => {
-            begin(out)?;
-            print_size(out, 1)?;
-            print_laid(out, string, laid)
-        }
-    }
-}
-
-// FILE row string-lent
-pub(crate) fn string_for_case<W: Write>(out: &mut W, line: &[u8]) -> io::Result<()> {
-    let mut file = [0u8; BYTES];
-    let n = take_bytes(field(line, 1), &mut file);
-    let row = size(field(line, 2));
-    let mut string = [FILL; BYTES];
-    let lent = least(size(field(line, 3)), BYTES);
-    let answer = wanted::string_for(&file[..n], row, &mut string[0..lent]);
-    let columns = least(fields::field(&file[..n], 6), fields::COLUMNS);
-    print_wanted(out, answer, &string, fields::width(columns))
+// FILE row string-lent; a string has as many bytes as the columns of its file take
+pub(crate) fn string_for_case<W: Write>(out: &mut W, case: Case) -> io::Result<()> {
+    let file: Vec<u8> = case.list(1, BYTES)?;
+    let mut string: Lent<u8> = case.lent(3, BYTES)?;
+    let answer = wanted::string_for(&file, case.size(2), string.lend());
+    let width = fields::width(fields::COLUMNS.min(fields::field(&file, 6)));
+    print_answer(out, answer.map(|found| [usize::from(found)]))?;
+    string.print(out, answer.ok().map(|found| if found { width } else { 0 }))
 }
 
 // FILE, which is read; what was read is written
-pub(crate) fn rewrite_case<W: Write>(out: &mut W, line: &[u8]) -> io::Result<()> {
-    let mut file = [0u8; BYTES];
-    let n = take_bytes(field(line, 1), &mut file);
+pub(crate) fn rewrite_case<W: Write>(out: &mut W, case: Case) -> io::Result<()> {
+    let file: Vec<u8> = case.list(1, BYTES)?;
     let mut entries = [0u8; ENTRIES];
-    match files::read(&file[..n], &mut entries) {
-        Checked::Refused(why) => refuse(out, why),
-        Checked::Matrix { rows, columns } => {
-            let mut again = [FILL; BYTES];
-            let answer = files::write(rows, columns, &entries, &mut again);
-            print_matrix(out, answer, &again)
-        }
-    }
+    let mut again: Lent<u8> = Lent::filled(case.alloc(), BYTES, BYTES)?;
+    let answer = files::read(&file, &mut entries).and_then(|sizes| files::write(
+        sizes,
+        &entries,
+        again.lend(),
+    ));
+    print_written(out, answer, &again)
+}
+
+// FILE program-lent
+pub(crate) fn compile_case<W: Write>(out: &mut W, case: Case) -> io::Result<()> {
+    let file: Vec<u8> = case.list(1, BYTES)?;
+    let lent = PROGRAM.min(case.size(2));
+    let mut program: Lent<u8> = Lent::filled(case.alloc(), lent, PROGRAM.min(lent + 64))?;
+    let answer = compiler::compile(&file, program.lend());
+    print_written(out, answer, &program)
 }

@@ -1,9 +1,11 @@
 // The cases of programs that stand in their line.
-use crate::answers::{outputs_of, print_checked, print_run, registers_of};
-use case_lines::answers::{FILL_WORD, print_laid_words, refuse, see_words};
-use case_lines::lines::BYTES;
-use case_lines::parsing::{field, least, short, size, take_bytes, take_words};
-use machine::Ran;
+use crate::runs::{outputs_of, registers_of, told};
+use case_lines::BYTES;
+use case_lines::answers::print_answer;
+use case_lines::cases::Case;
+use case_lines::lent::Lent;
+use fields::Refusal;
+use machine::Run;
 use programs::Program;
 use std::io;
 use std::io::Write;
@@ -11,88 +13,62 @@ use std::io::Write;
 // Room for the registers or the outputs that a line gives, or that are lent.
 const WORDS: usize = 32;
 
+pub(crate) fn print_checked<W: Write>(out: &mut W, program: &[u8]) -> io::Result<()> {
+    let answer = checker::check(program);
+    print_answer(
+        out,
+        answer.map(|p| [p.registers, p.inputs, p.outputs, p.rows, p.count as usize]),
+    )
+}
+
 // PROGRAM
-pub(crate) fn check_case<W: Write>(out: &mut W, line: &[u8]) -> io::Result<()> {
-    let mut program = [0u8; BYTES];
-    let n = take_bytes(field(line, 1), &mut program);
-    print_checked(out, checker::check(&program[..n]))
+pub(crate) fn check_case<W: Write>(out: &mut W, case: Case) -> io::Result<()> {
+    let program: Vec<u8> = case.list(1, BYTES)?;
+    print_checked(out, &program)
 }
 
 // The answer of a start or a resume: the program's own registers and outputs are its result, and the other words must be what they
 // were before.
 fn print_ran<W: Write>(
     out: &mut W,
-    ran: Ran,
+    answer: Result<Run, Refusal>,
     program: &[u8],
-    registers: &[u64; WORDS],
-    registers_before: &[u64; WORDS],
-    outputs: &[u64; WORDS],
-    outputs_before: &[u64; WORDS],
+    registers: &Lent<u64>,
+    outputs: &Lent<u64>,
 ) -> io::Result<()> {
-    match ran {
-        Ran::Refused(why) => {
-            refuse(out, why)?;
-            see_words(out, registers, registers_before, 0)?;
-            see_words(out, outputs, outputs_before, 0)
-        }
-        Ran::Done(run) => {
-            print_run(out, run, run.count)?;
-            print_laid_words(out, registers, registers_before, registers_of(program))?;
-            print_laid_words(out, outputs, outputs_before, outputs_of(program))
-        }
-    }
+    print_answer(out, answer.map(|run| told(run, run.count)))?;
+    registers.print(out, answer.ok().map(|_| registers_of(program)))?;
+    outputs.print(out, answer.ok().map(|_| outputs_of(program)))
 }
 
 // PROGRAM INPUTS registers-lent outputs-lent budget
-pub(crate) fn start_case<W: Write>(out: &mut W, line: &[u8]) -> io::Result<()> {
-    let mut bytes = [0u8; BYTES];
-    let n = take_bytes(field(line, 1), &mut bytes);
-    let program = &bytes[..n];
-    let mut inputs = [0u64; Program::INPUTS];
-    let i = take_words(field(line, 2), &mut inputs);
-    let before = [FILL_WORD; WORDS];
-    let mut registers = before;
-    let mut outputs = before;
-    let r = least(size(field(line, 3)), WORDS);
-    let o = least(size(field(line, 4)), WORDS);
-    let ran = machine::start(
-        program,
-        &inputs[..i],
-        &mut registers[0..r],
-        &mut outputs[0..o],
-        short(field(line, 5)),
-    );
-    print_ran(out, ran, program, &registers, &before, &outputs, &before)
+pub(crate) fn start_case<W: Write>(out: &mut W, case: Case) -> io::Result<()> {
+    let program: Vec<u8> = case.list(1, BYTES)?;
+    let inputs: Vec<u64> = case.list(2, Program::INPUTS)?;
+    let mut registers: Lent<u64> = case.lent(3, WORDS)?;
+    let mut outputs: Lent<u64> = case.lent(4, WORDS)?;
+    let budget = case.short(5);
+    let answer = machine::start(&program, &inputs, registers.lend(), outputs.lend(), budget);
+    print_ran(out, answer, &program, &registers, &outputs)
 }
 
+// A resume is lent words with what they hold, at a position: what the two cases share is `print_ran`.
+//
 // PROGRAM INPUTS REGISTERS OUTPUTS position budget
-pub(crate) fn resume_case<W: Write>(out: &mut W, line: &[u8]) -> io::Result<()> {
-    let mut bytes = [0u8; BYTES];
-    let n = take_bytes(field(line, 1), &mut bytes);
-    let program = &bytes[..n];
-    let mut inputs = [0u64; Program::INPUTS];
-    let i = take_words(field(line, 2), &mut inputs);
-    let mut registers = [FILL_WORD; WORDS];
-    let mut outputs = [FILL_WORD; WORDS];
-    let r = take_words(field(line, 3), &mut registers);
-    let o = take_words(field(line, 4), &mut outputs);
-    let registers_before = registers;
-    let outputs_before = outputs;
-    let ran = machine::resume(
-        program,
-        &inputs[..i],
-        &mut registers[0..r],
-        &mut outputs[0..o],
-        short(field(line, 5)),
-        short(field(line, 6)),
+pub(crate) fn resume_case<W: Write>(out: &mut W, case: Case) -> io::Result<()> {
+    let program: Vec<u8> = case.list(1, BYTES)?;
+    let inputs: Vec<u64> = case.list(2, Program::INPUTS)?;
+    let mut registers: Lent<u64> = case.lent_list(3, WORDS)?;
+    let mut outputs: Lent<u64> = case.lent_list(4, WORDS)?;
+    let position = case.short(5);
+    let budget = case.short(6);
+    let answer = machine::resume(
+        &program,
+        &inputs,
+        registers.lend(),
+        outputs.lend(),
+        position,
+        budget,
     );
-    print_ran(
-        out,
-        ran,
-        program,
-        &registers,
-        &registers_before,
-        &outputs,
-        &outputs_before,
-    )
+    print_ran(out, answer, &program, &registers, &outputs)
 }

@@ -4,49 +4,21 @@
 
 mod tables;
 
-use case_lines::answers::end_line;
-use case_lines::lines::{LINE, LINES, next_line, print_too_many, text};
-use case_lines::parsing::{field, size};
+use case_lines::cases::Case;
+use case_lines::lines::run_cases;
 use std::io;
-use std::io::{BufReader, BufWriter, Read, Write};
+use std::io::Write;
 
-fn run_case<W: Write>(out: &mut W, line: &[u8]) -> io::Result<()> {
-    match size(field(line, 0)) {
-        0x15 => tables::import_case(out, line),
-        0x16 => tables::export_case(out, line),
-        0x17 => tables::lookup_case(out, line),
+// The numbers of the cases stand in this place alone, so an enum of them would be a second list; what the programs share is `run_cases`.
+fn run_case<W: Write>(out: &mut W, case: Case) -> io::Result<()> {
+    match case.size(0) {
+        0x15 => tables::import_case(out, case),
+        0x16 => tables::export_case(out, case),
+        0x17 => tables::lookup_case(out, case),
         _ => Ok(()),
     }
 }
 
-// Runs the case of the next line, and answers whether there was one.
-fn next_case<R: Read, W: Write>(input: &mut R, out: &mut W, line: &mut [u8]) -> io::Result<bool> {
-    let n = next_line(input, out, line)?;
-    if n == 0 {
-        return Ok(false);
-    }
-    run_case(out, text(&line[..n]))?;
-    end_line(out)?;
-    Ok(true)
-}
-
-fn run_lines<R: Read, W: Write>(
-    input: &mut R,
-    out: &mut W,
-    line: &mut [u8; LINE],
-) -> io::Result<()> {
-    for passed in 0..LINES {
-        if !next_case(input, out, line)? {
-            return Ok(());
-        }
-    }
-    print_too_many(out)
-}
-
 fn main(rt: HostRuntime) -> io::Result<()> {
-    let mut input = BufReader::new(rt.alloc(), rt.reader())?;
-    let mut out = BufWriter::new(rt.alloc(), io::writer(&rt))?;
-    let mut line = [0u8; LINE];
-    run_lines(&mut input, &mut out, &mut line)?;
-    out.flush()
+    run_cases(&rt, |out, case| run_case(out, case))
 }

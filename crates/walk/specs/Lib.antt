@@ -8,6 +8,7 @@ pub mod Used
 pub mod Turns
 pub mod Ways
 pub mod Packed
+pub mod Ranges
 pub mod Counts
 pub mod Theorems
 pub mod Intervals

@@ -21,19 +21,12 @@ at-near zero row (suc d) go e n = absurd (omega arith)
 at-near (suc b) row (suc d) go e n = ap go (omega arith)
 
 -- ---- a column
--- the row that is scanned after i others, counting from the top
-pub scan_turn : (column : ℕ → ℕ) (m i d : ℕ) → i < m →
-    scan column (m - i) d ≡ at (column (m - 1 - i)) (m - 1 - i) d (λ e. scan column (m - (i + 1)) e)
+-- the row that is scanned with r left
+pub scan_turn : (column : ℕ → ℕ) (r d : ℕ) → 0 < r → scan column r d ≡ at (column (r - 1)) (r - 1) d (λ e. scan column (r - 1) e)
 unfolding scan
-scan_turn column m i d h =
-    let e : m - i ≡ suc (m - 1 - i) = omega arith in
-    let k : m - (i + 1) ≡ m - 1 - i = omega arith in
-    rw (e, k)
-
-pub scan_none : (column : ℕ → ℕ) (m i d : ℕ) → m ≤ i → scan column (m - i) d ≡ left d
-unfolding scan
-scan_none column m i d h =
-    let e : m - i ≡ 0 = omega arith in
+scan_turn column zero d h = absurd (omega arith)
+scan_turn column (suc r) d h =
+    let e : suc r - 1 ≡ r = omega arith in
     rw e
 
 -- ---- what a column leaves

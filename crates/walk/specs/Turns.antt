@@ -1,15 +1,15 @@
 -- The turns of the walk's loops, each over plain variables: what is left from here on is what the whole walk draws. Assumes nothing.
-use Prim.Native.Nat.{ℕ, suc, ◌+◌, ◌-◌, ◌*◌, ◌^◌, ◌≤◌, ◌<◌}
+use Prim.Native.Nat.{ℕ, suc, ◌+◌, ◌-◌, ◌*◌, ◌≤◌, ◌<◌}
 use Rattle.std.specs.Prelude.{◌≡◌, List}
 use Rattle.std.proofs.Math.Path.{sym}
-use Rattle.std.proofs.Common.{◌∙◌, mul-le-mul}
+use Rattle.std.proofs.Common.{◌∙◌}
 use Rattle.std.proofs.Math.Nat.{sub-zero}
 use Rattle.std.proofs.Math.Numerals.{add-one}
 use native.Mathlib.Omega.{arith}
 use Rattle.laws.specs.Lists.{from, upto_from}
 use Rattle.fields.specs.Fields.{bit_of, field_of}
 use Rattle.walk.specs.Walk.{Drawn, hit, miss, Place, at, scan, then, walk, file_rows, draw_at}
-use Rattle.walk.specs.Steps.{at_pass, at-hit, at-near, scan_none, scan_turn, far}
+use Rattle.walk.specs.Steps.{at_pass, at-hit, at-near, scan_turn, far}
 
 module _ (bit : ℕ → ℕ → ℕ) (string : ℕ → ℕ) (m n : ℕ) where
   -- the walk from column c on, on the bits that are left
@@ -29,45 +29,45 @@ module _ (bit : ℕ → ℕ → ℕ) (string : ℕ → ℕ) (m n : ℕ) where
       rw e
 
 module _ (bit : ℕ → ℕ → ℕ) (string : ℕ → ℕ) (m n : ℕ) (w : Drawn) where
-  -- w is what is left before column c at distance d; and in column c after i rows from the top
+  -- w is what is left before column c at distance d; and in column c with the rows below r left
   pub Left : ℕ → ℕ → Type 0
   Left c d = rest bit string m n c d ≡ w
 
   pub Within : ℕ → ℕ → ℕ → Type 0
-  Within c i d = then c (scan (λ v. bit v c) (m - i) d) (λ e. rest bit string m n (c + 1) e) ≡ w
+  Within c r d = then c (scan (λ v. bit v c) r d) (λ e. rest bit string m n (c + 1) e) ≡ w
 
-  pub into : (c d b : ℕ) → c < n → b ≡ string c → Left c d → Within c 0 (2 * d + b)
+  pub into : (c d b : ℕ) → c < n → b ≡ string c → Left c d → Within c m (2 * d + b)
   unfolding Left Within
-  into c d b h e l = rw (sub-zero m, e) (sym (rest-column bit string m n c d h) ∙ l)
+  into c d b h e l = rw e (sym (rest-column bit string m n c d h) ∙ l)
 
   -- one row, in the code's words
-  turn : (c b i d : ℕ) (o : Place) → i < m → b ≡ bit (m - 1 - i) c →
-      at b (m - 1 - i) d (λ x. scan (λ v. bit v c) (m - (i + 1)) x) ≡ o → Within c i d → then c o (λ e. rest bit string m n (c + 1) e) ≡ w
+  turn : (c b r d : ℕ) (o : Place) → 0 < r → b ≡ bit (r - 1) c → at b (r - 1) d (λ x. scan (λ v. bit v c) (r - 1) x) ≡ o → Within c r d →
+      then c o (λ e. rest bit string m n (c + 1) e) ≡ w
   unfolding Within
-  turn c b i d o h e q t = rw (← q, e, ← scan_turn (λ v. bit v c) m i d h) t
+  turn c b r d o h e q t = rw (← q, e, ← scan_turn (λ v. bit v c) r d h) t
 
-  pub pass : (c b i d e : ℕ) → i < m → b ≡ bit (m - 1 - i) c → b < 2 → (b ≡ 1 → ⊥) → e ≡ d → Within c i d → Within c (i + 1) e
+  pub pass : (c b r d : ℕ) → 0 < r → b ≡ bit (r - 1) c → b < 2 → (b ≡ 1 → ⊥) → Within c r d → Within c (r - 1) d
   unfolding Within
-  pass c b i d e h s l q k t =
-      rw k (turn c b i d _ h s (at_pass b (m - 1 - i) d (λ x. scan (λ v. bit v c) (m - (i + 1)) x) l q) t)
+  pass c b r d h s l q t = turn c b r d _ h s (at_pass b (r - 1) d (λ x. scan (λ v. bit v c) (r - 1) x) l q) t
 
-  pub near : (c b i d e : ℕ) → i < m → b ≡ bit (m - 1 - i) c → b ≡ 1 → (d ≡ 0 → ⊥) → e ≡ d - 1 → Within c i d → Within c (i + 1) e
+  pub near : (c b r d : ℕ) → 0 < r → b ≡ bit (r - 1) c → b ≡ 1 → (d ≡ 0 → ⊥) → Within c r d → Within c (r - 1) (d - 1)
   unfolding Within
-  near c b i d e h s l q k t =
-      rw k (turn c b i d _ h s (at-near b (m - 1 - i) d (λ x. scan (λ v. bit v c) (m - (i + 1)) x) l q) t)
+  near c b r d h s l q t = turn c b r d _ h s (at-near b (r - 1) d (λ x. scan (λ v. bit v c) (r - 1) x) l q) t
 
-  pub strike : (c b i d : ℕ) → i < m → b ≡ bit (m - 1 - i) c → b ≡ 1 → d ≡ 0 → Within c i d → hit (m - 1 - i) c ≡ w
+  pub strike : (c b r d : ℕ) → 0 < r → b ≡ bit (r - 1) c → b ≡ 1 → d ≡ 0 → Within c r d → hit (r - 1) c ≡ w
   unfolding then
-  strike c b i d h s l q t = turn c b i d _ h s (at-hit b (m - 1 - i) d (λ x. scan (λ v. bit v c) (m - (i + 1)) x) l q) t
+  strike c b r d h s l q t = turn c b r d _ h s (at-hit b (r - 1) d (λ x. scan (λ v. bit v c) (r - 1) x) l q) t
 
   -- the next column, and the other ways out
-  pub after : (c i d : ℕ) → m ≤ i → Within c i d → Left (c + 1) d
-  unfolding Left Within then
-  after c i d h t = rw (scan_none (λ v. bit v c) m i d h) at t
+  pub after : (c r d : ℕ) → r ≤ 0 → Within c r d → Left (c + 1) d
+  unfolding Left Within then scan
+  after c r d h t =
+      let e : r ≡ 0 = omega arith in
+      rw e at t
 
-  pub lost : (c i d : ℕ) → m ≤ i → m ≤ d → Within c i d → miss ≡ w
+  pub lost : (c r d : ℕ) → r ≤ 0 → m ≤ d → Within c r d → miss ≡ w
   unfolding Left rest
-  lost c i d h l t = sym (far bit m (c + 1) d (from string (c + 1) (n - (c + 1))) l) ∙ after c i d h t
+  lost c r d h l t = sym (far bit m (c + 1) d (from string (c + 1) (n - (c + 1))) l) ∙ after c r d h t
 
   pub over : (c d : ℕ) → n ≤ c → Left c d → miss ≡ w
   unfolding Left
@@ -78,10 +78,3 @@ pub start : (file strings : List ℕ) (place m n : ℕ) → m ≡ field_of file 
     Left (file_rows file n) (bit_of strings place) m n (draw_at file strings place) 0 0
 unfolding Left rest draw_at
 start file strings place m n a b = rw (← a, ← b, sub-zero n, upto_from n (bit_of strings place))
-
--- where a row begins, counted from the file's first byte and from the first row
-pub place_fits : (v w : ℕ) → v ≤ 65535 → w ≤ 8192 → 8 + v * w < 2 ^ 64
-place_fits v w a b = omega (arith, mul-le-mul a b)
-
-pub row_fits : (v w : ℕ) → v ≤ 65535 → w ≤ 8192 → v * w < 2 ^ 64
-row_fits v w a b = omega (arith, place_fits v w a b)

@@ -1,18 +1,20 @@
 -- 01, "Matrix and walk", and 02, order 1: the walk on a string of bits, the columns that it has used, and what walking a matrix file
 -- comes to. Assumes nothing.
-use Rattle.std.specs.Prelude.{ℕ, zero, suc, ◌+◌, ◌*◌, Bool, true, false, List, [], ◌∷◌, eqb}
+use Rattle.std.specs.Prelude.{ℕ, zero, suc, ◌+◌, ◌*◌, Bool, true, false, Option, Some, None, List, [], ◌∷◌, eqb}
 use Rattle.laws.specs.Lists.{upto}
-use Rattle.laws.specs.Outcome.{Outcome, refused, gives, ◌>>◌, ◌>>=◌}
+use Rattle.laws.specs.Outcome.{Outcome, gives, ◌>>◌, ◌>>=◌}
 use Rattle.fields.specs.Fields.{bit_of, field_of, width}
 use Rattle.fields.specs.Limits.{most_columns}
 use Rattle.files.specs.Matrix.{Matrix, bit}
 use Rattle.files.specs.Files.{matrix_under}
-use Rattle.fields.specs.Refusal.{number_of}
 use Rattle.fields.specs.Strings.{strings_under}
+use Rattle.walk.specs.declared.Hit.{Hit}
 use Rattle.walk.specs.declared.Walked.{Walked}
--- what a walk draws, the code's own type: a row, hit in a column, or nothing
-pub use Rattle.walk.specs.declared.Drawn.{Drawn}
-pub use Rattle.walk.specs.declared.Drawn.TheVariants.{Hit as hit, Miss as miss}
+
+-- what a walk draws: a row, hit in a column, or nothing
+pub data Drawn : Type 0 where
+  hit : ℕ → ℕ → Drawn
+  miss : Drawn
 
 -- where the rows of one column leave the walk: at the row that it hits, or with what is left of d
 pub data Place : Type 0 where
@@ -107,8 +109,14 @@ hits v d = is_row v (answer_of d)
 unfoldable pub misses : Drawn → Bool
 misses d = is_miss (answer_of d)
 
--- ---- the answer's cases in 01's numbers and values
-abbrev pub walked : Walked → Outcome Spending
-walked (Walked.Refused why) = refused (number_of why)
-walked (Walked.Hit v u) = gives (record { answer = sample v; used = u })
-walked (Walked.Miss u) = gives (record { answer = missed; used = u })
+-- ---- the code's answers in these words
+abbrev pub drawn_of : Option Hit → Drawn
+drawn_of (Some h) = hit h.row h.column
+drawn_of None = miss
+
+abbrev pub row_answer : Option ℕ → Answer
+row_answer (Some v) = sample v
+row_answer None = missed
+
+abbrev pub walked : Walked → Spending
+walked w = record { answer = row_answer w.row; used = w.used }

@@ -1,12 +1,13 @@
 -- The ways through the checks of a walk: each refusal, and what is drawn from the rows in the file. Assumes nothing.
-use Rattle.std.specs.Prelude.{ℕ, ◌+◌, ◌*◌, ◌/◌, ◌%◌, ◌<◌, ◌≡◌, List, get_or, drop}
+use Rattle.std.specs.Prelude.{ℕ, ◌+◌, ◌*◌, ◌/◌, ◌%◌, ◌≤◌, ◌<◌, ◌≡◌, List, get_or, drop}
 use Rattle.std.proofs.Common.{sym, ◌∙◌, arith, get_or-drop}
 use Rattle.std.proofs.Math.Path.{ap}
-use Rattle.laws.specs.Digits.{digit}
+use Rattle.laws.specs.Digits.{digit, digit-le}
 use Rattle.laws.specs.Lists.{upto, length-upto}
 use Rattle.laws.specs.Outcome.{refused, gives, ◌>>◌, mapped, mapped-gives, mapped-refused}
 use Rattle.fields.specs.Fields.{width, bit_of, packed_bit}
-use Rattle.files.specs.Matrix.{Matrix, Sizes, sizes, bit}
+use Rattle.files.specs.declared.headers.Sizes.{Sizes}
+use Rattle.files.specs.Matrix.{Matrix, sizes, bit}
 use Rattle.files.specs.Files.{matrix_of}
 use Rattle.files.specs.Checks.{header-says, matrix_read, unpacked_bit}
 use Rattle.fields.specs.Strings.{strings_of}
@@ -19,6 +20,11 @@ bit-behind : (k : ℕ) (bytes : List ℕ) (at i : ℕ) → bit_of (drop k bytes)
 unfolding packed_bit
 bit-behind k bytes at i =
     ap (λ (x : ℕ). digit 8 x (i % 8)) (get_or-drop k bytes (at + i / 8) 0 ∙ ap (λ (q : ℕ). get_or bytes q 0) (omega arith))
+
+-- a bit of the rows in a file is 0 or 1
+pub file_bit : (file : List ℕ) (n v c : ℕ) → file_rows file n v c ≤ 1
+unfolding packed_bit
+file_bit file n v c = digit-le 8 (get_or file (8 + v * width n + c / 8) 0) (c % 8)
 
 -- the rows of a file with a matrix are that matrix's
 pub rows_are : (file : List ℕ) (M : Matrix) → matrix_of file ≡ gives M → (v c : ℕ) → v < M.rows → c < M.columns →

@@ -5,44 +5,44 @@
 #![tactic(auto)]
 
 ghost use Rattle.std.specs.Prelude.{◌≡◌};
-ghost use Rattle.walk.specs.Walk.{draw_at, used_at, walked, walk_of};
+ghost use Rattle.laws.specs.Outcome.{mapped};
+ghost use Rattle.fields.specs.Refusal.{answered};
+ghost use Rattle.walk.specs.Walk.{draw_at, drawn_of, used_at, walked, walk_of};
 
-use fields::{Refusal, Strings, bit, check_strings, field, width};
-use files::{Checked, check};
+use fields::{Refusal, bit, check_strings, field, width};
+use files::check;
 
-// A refusal; or the row that the walk hits, or a miss, each with the columns that it has used.
+// What a walk answers: the row that it hits, or none for a miss, and the columns that it has used.
 #[derive(Clone, Copy)]
-pub enum Walked {
-    Refused(Refusal),
-    Hit { row: usize, used: usize },
-    Miss { used: usize },
+pub struct Walked {
+    pub row: Option<usize>,
+    pub used: usize,
 }
 
-// What a walk draws: the row that it hits, with its column, or a miss. It is the type of the definitions in specs/Walk.antt.
+// The row that a walk hits, and the column in which it does.
 #[derive(Clone, Copy)]
-pub enum Drawn {
-    Hit { row: usize, column: usize },
-    Miss,
+struct Hit {
+    row: usize,
+    column: usize,
 }
 
 // Walks the rows behind the header of a file, as many and as long as its fields say, on the packed string that begins at byte `at` of
 // `strings`. Whether the file is sound is not tried here. A d of m or more that is left after a column can never hit later, so the walk
 // ends there, and d never wraps.
-fn draw(file: &[u8], strings: &[u8], at: usize) -> Drawn
-    ensures { result ≡ draw_at file.now strings.now at }
+fn draw(file: &[u8], strings: &[u8], at: usize) -> Option<Hit>
+    ensures { drawn_of result ≡ draw_at file.now strings.now at }
 {
     let m = field(file, 4);
     let n = field(file, 6);
     let w = width(n);
     let mut d: usize = 0;
-    let mut drawn = Drawn::Miss;
+    let mut hit = None;
     'walk: for c in 0..n {
         d = 2 * d + bit(strings, at, c) as usize;
-        for i in 0..m {
-            let v = m - 1 - i;
+        for v in (0..m).rev() {
             if bit(file, 8 + v * w, c) == 1 {
                 if d == 0 {
-                    drawn = Drawn::Hit { row: v, column: c };
+                    hit = Some(Hit { row: v, column: c });
                     break 'walk;
                 }
                 d -= 1;
@@ -52,7 +52,7 @@ fn draw(file: &[u8], strings: &[u8], at: usize) -> Drawn
             break 'walk;
         }
     }
-    drawn
+    hit
 }
 
 // The columns that the walk on the packed string that begins at byte `at` of `strings` uses, of a file that is not checked here, so that
@@ -62,27 +62,26 @@ pub fn used(file: &[u8], strings: &[u8], at: usize) -> usize
 {
     let n = field(file, 6);
     match draw(file, strings, at) {
-        Drawn::Hit { row, column } => column + 1,
-        Drawn::Miss => n,
+        Some(hit) => hit.column + 1,
+        None => n,
     }
 }
 
 // Walks a matrix file on a packed string: the row that is hit, or a miss, and the columns used; or refusal 1 to 6 for the file, then 13
 // and 5 for the string.
-pub fn walk(file: &[u8], string: &[u8]) -> Walked
-    ensures { walked result ≡ walk_of file.now string.now }
+pub fn walk(file: &[u8], string: &[u8]) -> Result<Walked, Refusal>
+    ensures { mapped walked (answered result) ≡ walk_of file.now string.now }
 {
-    match check(file) {
-        Checked::Refused(why) => Walked::Refused(why),
-        Checked::Matrix { rows, columns } => match check_strings(1, columns, string) {
-            Strings::Refused(why) => Walked::Refused(why),
-            Strings::Sound => match draw(file, string, 0) {
-                Drawn::Hit { row, column } => Walked::Hit {
-                    row,
-                    used: column + 1,
-                },
-                Drawn::Miss => Walked::Miss { used: columns },
-            },
-        },
+    let size = check(file)?;
+    check_strings(1, size.columns, string)?;
+    match draw(file, string, 0) {
+        Some(hit) => Ok(Walked {
+            row: Some(hit.row),
+            used: hit.column + 1,
+        }),
+        None => Ok(Walked {
+            row: None,
+            used: size.columns,
+        }),
     }
 }

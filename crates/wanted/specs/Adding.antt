@@ -1,16 +1,16 @@
 -- Bits that are packed, in place: all 0, and one bit more. Assumes nothing.
 use Prim.Native.Nat.{ℕ, suc, ◌+◌, ◌-◌, ◌*◌, ◌/◌, ◌%◌, ◌^◌, ◌≤◌, ◌<◌}
-use Rattle.std.specs.Prelude.{◌≡◌, refl, cond, ◌≢◌, leb, length, get_or, set, drop}
-use Rattle.std.proofs.Common.{sym, ap, ◌∙◌, ⊎_elim, eq-or-lt_of_le, arith, le-leb, length-set, ext_get_or, get_or-set_same}
+use Rattle.std.specs.Prelude.{◌≡◌, refl, cond, ◌≢◌, leb, length, get_or, set, take, drop, replicate}
+use Rattle.std.proofs.Common.{sym, ap, ◌∙◌, ⊎_elim, eq-or-lt_of_le, arith, le-leb, length-set, length-take-le, ext_get_or, get_or-set_same}
 use Rattle.std.proofs.Common.{get_or-set_other}
-use mathlib.Core.List.{List}
+use mathlib.Core.List.{List, ◌++◌}
 use Rattle.std.proofs.Math.Decide.{ℕ_discrete}
 use Rattle.std.proofs.lemmas.Bool.{lt-leb}
-use Rattle.std.proofs.lemmas.List.{set-append_left}
+use Rattle.std.proofs.lemmas.List.{set-append_left, length-replicate, get_or-replicate}
 use Rattle.laws.specs.Tests.{lt-or_ge}
 use Rattle.laws.specs.Digits.{number, number-add, number_shift, number-zero, number_lt}
-use Rattle.laws.specs.Lists.{upto, upto-eq, get_d_upto}
-use Rattle.laws.specs.Lay.{lay, lay_at, lay-is, at_front}
+use Rattle.laws.specs.Lists.{get_d_upto}
+use Rattle.laws.specs.Lay.{lay, at_front}
 use Rattle.fields.specs.Fields.{width, padded, packed, padded-below, padded-above, padded-both, padded-le, length-packed}
 
 -- ---- the bits from a place on
@@ -133,9 +133,14 @@ cleared_byte : (n q : ℕ) → number (padded n (λ i. 0)) (8 * q) 8 ≡ 0
 cleared_byte n q =
     number-zero (padded n (λ i. 0)) (8 * q) 8 (λ t l. padded-both (λ (x : ℕ). x ≡ 0) n (λ i. 0) (8 * q + t) (λ h. refl) (λ h. refl))
 
-pub cleared : (n : ℕ) (buf now : List ℕ) → now ≡ lay_at 0 (upto (width n) (λ q. 0)) buf → now ≡ lay (packed n (λ i. 0)) buf
-unfolding packed
-cleared n buf now e =
-    e ∙ (lay-is (upto (width n) (λ q. 0)) buf ∙
-    ap (λ (l : List ℕ). lay l buf)
-    (upto-eq (width n) (λ q. 0) (λ q. number (padded n (λ i. 0)) (8 * q) 8) (λ q l. sym (cleared_byte n q))))
+-- and the bytes of such bits, filled in at the front of a buffer
+pub cleared : (n w : ℕ) (buf front : List ℕ) → w ≡ width n → w ≤ length buf → front ≡ replicate (length (take w buf)) 0 →
+    front ++ drop w buf ≡ lay (packed n (λ i. 0)) buf
+unfolding lay
+cleared n w buf front e h f =
+    let zeros : replicate (width n) 0 ≡ packed n (λ i. 0) =
+    ext_get_or 0 (replicate (width n) 0) (packed n (λ i. 0)) (length-replicate {A = ℕ} (width n) 0 ∙ sym (length-packed n (λ i. 0)))
+    (λ q l.
+    let k : q < width n = omega (arith, l, length-replicate {A = ℕ} (width n) 0) in
+    get_or-replicate (width n) q 0 0 k ∙ sym (byte_at n (λ i. 0) q k ∙ cleared_byte n q)) in
+    rw (f, length-take-le w buf h, e, zeros, length-packed n (λ i. 0))

@@ -1,6 +1,7 @@
 -- The bits of a string from its last 1 back to its first, and the ones that are counted for it. Assumes nothing.
 use Prim.Native.Nat.{ℕ, suc, ◌+◌, ◌-◌, ◌*◌, ◌/◌, ◌%◌, ◌^◌, ◌≤◌, ◌<◌}
-use Rattle.std.specs.Prelude.{◌≡◌, refl, get_or, set}
+use Rattle.std.specs.Prelude.{◌≡◌, refl, eqb, filter, length, get_or, set}
+use Rattle.std.specs.List.{range_with_len}
 use Rattle.std.proofs.Math.Path.{sym, ap}
 use Rattle.std.proofs.Common.{◌∙◌, add-one}
 use mathlib.Core.List.{List}
@@ -8,12 +9,15 @@ use Rattle.std.proofs.Math.Logic.{⊎_elim}
 use native.Mathlib.Omega.{arith}
 use Rattle.std.proofs.lemmas.Nat.{shl-shr}
 use Rattle.std.proofs.Math.Pow.{shr-shr}
-use Rattle.laws.specs.Tests.{lt-or_ge, reached}
-use Rattle.laws.specs.Sums.{sum_to, sum_more}
+use Rattle.std.proofs.lemmas.List.Sums.{length-filter, count_by-le-length}
+use Rattle.std.proofs.lemmas.List.FromFn.{length-range_with_len}
+use Rattle.laws.specs.Tests.{lt-or_ge}
+use Rattle.laws.specs.Sums.{sum_to}
 use Rattle.laws.specs.Digits.{digit, digit-le, digit-behind}
 use Rattle.laws.specs.Lay.{lay, lay-again}
 use Rattle.fields.specs.Fields.{packed, packed-eq, length-packed}
 use Rattle.files.specs.Matrix.{ones_in}
+use Rattle.walk.specs.Ranges.{ones_from}
 use Rattle.walk.specs.Intervals.{total_to, total_more, above, leading, first_number}
 use Rattle.wanted.specs.Adding.{from_on, from_at, from-before, bit-fits, bit_added}
 
@@ -111,18 +115,20 @@ module _ (bit : ℕ → ℕ → ℕ) (m n : ℕ) where
       d.is ∙ rw (all, a.is)
       (lay-again g (packed n (digit n x)) buf (length-packed n (from_on c (digit n x)) ∙ sym (length-packed n (digit n x))))
 
--- ---- the ones of some rows, counted: k of them from row `from` up to row v
-pub record Counted (bit : ℕ → ℕ → ℕ) (c from v k : ℕ) : Type 0 where
-  pub is : k + ones_in bit from c ≡ ones_in bit v c
-  pub few : k ≤ v
-
-module _ (bit : ℕ → ℕ → ℕ) (c from : ℕ) where
-  pub counted_none : Counted bit c from from 0
-  counted_none = record { is = omega arith; few = omega arith }
-
-  pub counted_more : (v k b : ℕ) → b ≡ bit v c → b < 2 → Counted bit c from v k → Counted bit c from (v + 1) (k + b)
-  unfolding ones_in
-  counted_more v k b e l h = record { is = rw (sum_more v (λ v. bit v c)) (omega (arith, h.is)); few = omega (arith, h.few) }
-
-  pub counted-all : (v to k : ℕ) → v ≤ to → to ≤ v → Counted bit c from v k → (k + ones_in bit from c ≡ ones_in bit to c) × (k ≤ to)
-  counted-all v to k a b h = reached (λ t. (k + ones_in bit from c ≡ ones_in bit t c) × (k ≤ t)) v to a b (h.is, h.few)
+-- ---- the ones of some rows, as the library's iterators count them
+pub counted : (bit : ℕ → ℕ → ℕ) (c from to k : ℕ) → ((v : ℕ) → bit v c ≤ 1) → from ≤ to →
+    k ≡ length (filter (λ v. eqb (bit v c) 1) (range_with_len from (to - from))) →
+    (k + ones_in bit from c ≡ ones_in bit to c) × (k ≤ to)
+unfolding ones_in
+counted bit c from to k few h e =
+    let n : ℕ = to - from in
+    let end : from + n ≡ to = omega arith in (
+      omega (arith, e, ones_from (λ v. bit v c) few from n, ap (λ (i : ℕ). sum_to i (λ v. bit v c)) end),
+      omega (
+        arith,
+        e,
+        length-filter (λ v. eqb (bit v c) 1) (range_with_len from n),
+        count_by-le-length (λ v. eqb (bit v c) 1) (range_with_len from n),
+        length-range_with_len from n,
+      ),
+    )

@@ -18,9 +18,7 @@ use Rattle.fields.specs.Strings.{strings_of}
 use Rattle.files.specs.Matrix.{Matrix, p}
 use Rattle.files.specs.Files.{matrix_of}
 use Rattle.files.specs.RoundTrip.{read_accepted}
-use Rattle.walk.specs.Walk.{drawn, hits, is_row, sample, answer_of, used, spending_of, walk_under, walk_of}
-use Rattle.walk.specs.declared.Drawn.{Drawn}
-use Rattle.walk.specs.declared.Drawn.TheVariants.{Hit as hit, Miss as miss}
+use Rattle.walk.specs.Walk.{Drawn, hit, miss, drawn, hits, is_row, sample, answer_of, used, spending_of, walk_under, walk_of}
 use Rattle.walk.specs.Strings.{Bits}
 use Rattle.walk.specs.Numbers.{number_string, read_number, number-bits, number_of_string}
 use Rattle.walk.specs.Packed.{packed_string, packed_string-sound, packed_string-bits, read_bits}

@@ -13,8 +13,7 @@ use Rattle.laws.specs.Smallest.{smallest, Smallest, smallest_is, smallest_iff}
 use Rattle.files.specs.Matrix.{Matrix, Accepted, bit, p, total}
 use Rattle.files.specs.Live.{total_from}
 use Rattle.files.specs.RoundTrip.{accepted-bits}
-use Rattle.walk.specs.Walk.{drawn, hits}
-use Rattle.walk.specs.declared.Drawn.TheVariants.{Hit as hit}
+use Rattle.walk.specs.Walk.{hit, drawn, hits}
 use Rattle.walk.specs.Strings.{Bits}
 use Rattle.walk.specs.Numbers.{string_number, number_string, number-bits, string_of_number, number_of_string, string-lt}
 use Rattle.walk.specs.Intervals.{leading, first_number, hits-is, ends-below, ends-before, hit_iff, Hitting, row_iff}

@@ -1,18 +1,16 @@
 -- 02, order 7: a string for a wanted sample. Assumes nothing.
+use Rattle.std.specs.Prelude as Prelude
 use Rattle.std.specs.Prelude.{ℕ, ◌^◌, Bool, true, false, List, [], leb, ltb}
 use Rattle.std.proofs.Math.Option.{Option, none, some}
 use Rattle.laws.specs.Smallest.{smallest}
-use Rattle.laws.specs.Outcome.{Outcome, refused, gives, refuse, ◌>>◌, ◌>>=◌}
+use Rattle.laws.specs.Outcome.{Outcome, gives, refuse, ◌>>◌, ◌>>=◌}
 use Rattle.fields.specs.Fields.{width}
 use Rattle.fields.specs.Limits.{most_columns}
-use Rattle.fields.specs.Refusal.{number_of}
 use Rattle.files.specs.Matrix.{Matrix}
 use Rattle.files.specs.Files.{matrix_under}
 use Rattle.walk.specs.Walk.{drawn, hits}
 use Rattle.walk.specs.Numbers.{number_string}
 use Rattle.walk.specs.Packed.{packed_string}
-use Rattle.wanted.specs.declared.Wanted.{Wanted}
-use Rattle.wanted.specs.declared.Column.{Column}
 
 -- the smallest of the n-bit numbers, b_0 highest, on whose string the walk hits row v, if there is one
 unfoldable pub number_for : Matrix → ℕ → Option ℕ
@@ -45,13 +43,7 @@ abbrev pub string_bytes : Option (List ℕ) → List ℕ
 string_bytes none = []
 string_bytes (some bytes) = bytes
 
--- ---- the answers' cases in the papers' numbers and values
-abbrev pub wanted : Wanted → Outcome Bool
-wanted (Wanted.Refused why) = refused (number_of why)
-wanted Wanted.Found = gives true
-wanted Wanted.None = gives false
-
--- the first set column of a row, or that it has none
-abbrev pub column_of : Column → Option ℕ
-column_of (Column.At c) = some c
-column_of Column.None = none
+-- ---- the first set column of a row, or that it has none, as the code answers
+abbrev pub column_of : Prelude.Option ℕ → Option ℕ
+column_of (Prelude.Some c) = some c
+column_of Prelude.None = none

@@ -1,17 +1,18 @@
 -- The turns of the search for a row's first set column, and the ways through the checks: each refusal, none, and the string that is laid
 -- down. Assumes nothing.
-use Rattle.std.specs.Prelude.{ℕ, suc, ◌+◌, ◌≤◌, ◌<◌, ◌≡◌, List, eqb, get_or}
+use Rattle.std.specs.Prelude as Prelude
+use Rattle.std.specs.Prelude.{ℕ, suc, ◌+◌, ◌≤◌, ◌<◌, ◌≡◌, Bool, true, false, MatchOption, List, eqb, get_or}
 use Rattle.std.proofs.Math.Path.{refl, ap}
 use Rattle.std.proofs.Common.{sym, ◌∙◌, arith}
 use Rattle.std.proofs.Math.Option.{Option, none, some}
-use borrow.Author.Tests.{le-leb, lt-leb, lt-ltb, le-ltb, eq-eqb, ne_eqb}
-use Rattle.laws.specs.Tests.{reached}
+use borrow.Author.Tests.{le-leb, lt-leb, lt-ltb, le-ltb}
 use Rattle.laws.specs.Digits.{digit}
-use Rattle.laws.specs.Smallest.{smallest, smallest_lt, smallest_eq, smallest_more, smallest_found}
+use Rattle.laws.specs.Smallest.{smallest, smallest_lt, smallest_eq, smallest_none, smallest_at}
 use Rattle.laws.specs.Lists.{upto, get_d_upto}
 use Rattle.laws.specs.Outcome.{refused, gives, mapped, mapped-gives, mapped-refused}
 use Rattle.fields.specs.Fields.{width, packed, packed-eq}
-use Rattle.files.specs.Matrix.{Matrix, Sizes, sizes, bit}
+use Rattle.files.specs.declared.headers.Sizes.{Sizes}
+use Rattle.files.specs.Matrix.{Matrix, sizes, bit}
 use Rattle.files.specs.Files.{matrix_of}
 use Rattle.files.specs.Live.{ones-eq, total-eq}
 use Rattle.files.specs.RoundTrip.{read_accepted}
@@ -20,28 +21,15 @@ use Rattle.walk.specs.Ways.{rows_are}
 use Rattle.walk.specs.Numbers.{number_string}
 use Rattle.walk.specs.Packed.{packed_string}
 use Rattle.walk.specs.Intervals.{leading, first_number}
-use Rattle.wanted.specs.Wanted.{number_for, packed_number, wanted_under, wanted_of}
+use Rattle.wanted.specs.Wanted.{column_of, number_for, packed_number, wanted_under, wanted_of}
 use Rattle.wanted.specs.Theorems.{first_column, first_of, number_is}
 
--- ---- the search: no column before c has a 1
-module _ (f : ℕ → ℕ) (n : ℕ) where
-  pub record Unset (c : ℕ) : Type 0 where
-    pub inside : c ≤ n
-    pub before : smallest c (λ c. eqb (f c) 1) ≡ none
-
-  pub unset-none : Unset 0
-  unfolding smallest
-  unset-none = record { inside = omega arith; before = refl }
-
-  pub unset_more : (c b : ℕ) → c < n → b ≡ f c → (b ≡ 1 → ⊥) → Unset c → Unset (c + 1)
-  unset_more c b h e k u =
-      record { inside = omega arith; before = smallest_more c (λ c. eqb (f c) 1) (ne_eqb (f c) 1 (λ z. k (e ∙ z))) u.before }
-
-  pub set_found : (c b : ℕ) → c < n → b ≡ f c → b ≡ 1 → Unset c → some c ≡ smallest n (λ c. eqb (f c) 1)
-  set_found c b h e k u = smallest_found n c (λ c. eqb (f c) 1) h (eq-eqb (f c) 1 (sym e ∙ k)) u.before
-
-  pub unset-all : (c : ℕ) → n ≤ c → Unset c → none ≡ smallest n (λ c. eqb (f c) 1)
-  unset-all c h u = sym (reached (λ k. smallest k (λ c. eqb (f c) 1) ≡ none) c n u.inside h u.before)
+-- ---- the search for a row's first set column, as the code answers
+pub first_column_found : (n : ℕ) (test : ℕ → Bool) (o : Prelude.Option ℕ) →
+    MatchOption o ((c : ℕ) → 0 ≤ c → c < n → test c ≡ false)
+    (λ x. (0 ≤ x) × (x < n) × (test x ≡ true) × ((c : ℕ) → 0 ≤ c → c < x → test c ≡ false)) → column_of o ≡ smallest n test
+first_column_found n test Prelude.None f = sym (smallest_none n test (λ c l. f c (omega arith) l))
+first_column_found n test (Prelude.Some x) f = sym (smallest_at n test x f.1 f.2 (λ c l. f.3 c (omega arith) l))
 
 -- ---- the first number of an interval depends on the bits of the m rows and n columns alone
 module _ (f g : ℕ → ℕ → ℕ) (m n : ℕ) (same : (v c : ℕ) → v < m → c < n → f v c ≡ g v c) where

@@ -3,14 +3,15 @@ ghost use Rattle.std.specs.Prelude.{◌≡◌, ◌+◌, ◌*◌, ◌^◌, ◌≤
 ghost use Rattle.laws.specs.Lists.{blocks};
 ghost use Rattle.laws.specs.Lay.{lay, lay_at};
 ghost use Rattle.laws.specs.Outcome.{laid, mapped};
-ghost use Rattle.fields.specs.Refusal.{written};
+ghost use Rattle.fields.specs.Refusal.{answered};
+ghost use Rattle.fields.specs.Limits.{most_columns};
 ghost use Rattle.fields.specs.Fields.{packed, width};
 ghost use Rattle.files.specs.Matrix.{most_rows};
 ghost use Rattle.weights.specs.Weights.{build_of, counted, quotient, sum};
 
 use crate::dividing::divide_row;
-use fields::{Refusal, Written, width};
-use files::{sizes_outside, write_header};
+use fields::{Refusal, width};
+use files::{Sizes, write_header};
 
 // What the weights stand for: weight v serves sample v, or distance v on both sides of 0.
 #[derive(Clone, Copy)]
@@ -35,49 +36,54 @@ fn sum_of(usage: Usage, weights: &[u32]) -> u64
     ensures { (result ≡ sum usage weights.now) × (result < 2 ^ 40) }
 {
     let mut s: u64 = 0;
-    for v in 0..weights.len() {
-        s += counted_weight(usage, v, weights[v]);
+    for (v, w) in weights.iter().enumerate() {
+        s += counted_weight(usage, v, *w);
     }
     s
 }
 
 // Lays a row for each weight behind the header of `file`.
 fn divide_rows(usage: Usage, weights: &[u32], s: u64, n: usize, file: &mut [u8])
-    requires { (s ≡ sum usage weights.now) × (s < 2 ^ 40) × (8 + length weights.now * width n ≤ length file.old) }
+    requires { (s ≡ sum usage weights.now) × (s < 2 ^ 40) × (n ≤ most_columns) × (8 + length weights.now * width n ≤ length file.old) }
     ensures { let ws = weights.now in
         file.new ≡ lay_at 8 (blocks (length ws) (λ v. packed n (quotient s (counted usage v (get_or ws v 0))))) file.old }
 {
+    // Rows by their place (tried: what `chunks_exact_mut` lends and is written to, no proof knows when its loop ends).
     let bytes = width(n);
-    for v in 0..weights.len() {
+    for (v, w) in weights.iter().enumerate() {
+        let at = 8 + v * bytes;
         divide_row(
-            counted_weight(usage, v, weights[v]),
+            counted_weight(usage, v, *w),
             s,
             n,
-            file,
-            8 + v * bytes,
+            &mut file[at..at + bytes],
         );
     }
 }
 
 // Builds the matrix of a list of weights with `columns` columns, writes its file at the front of `file`, and answers its length; or
 // refusal 3, 11 or 13. It cannot answer 6: what it builds sums to at most 2^n.
-pub fn build(weights: &[u32], columns: usize, usage: Usage, file: &mut [u8]) -> Written
+pub fn build(
+    weights: &[u32],
+    columns: usize,
+    usage: Usage,
+    file: &mut [u8],
+) -> Result<usize, Refusal>
     ensures { let o = build_of usage weights.now columns (length file.old) in
-        (written result ≡ mapped length o) × (file.new ≡ lay (laid (λ bytes. bytes) o) file.old) }
+        (answered result ≡ mapped length o) × (file.new ≡ lay (laid (λ bytes. bytes) o) file.old) }
 {
-    let rows = weights.len();
-    if sizes_outside(rows, columns) {
-        return Written::Refused(Refusal::Size);
+    let sizes = Sizes {
+        rows: weights.len(),
+        columns,
+    };
+    if sizes.outside() {
+        return Err(Refusal::Size);
     }
     let s = sum_of(usage, weights);
     if s == 0 {
-        return Written::Refused(Refusal::Weightless);
+        return Err(Refusal::Weightless);
     }
-    match write_header(rows, columns, file) {
-        Written::Refused(why) => Written::Refused(why),
-        Written::Length(length) => {
-            divide_rows(usage, weights, s, columns, file);
-            Written::Length(length)
-        }
-    }
+    let length = write_header(sizes, file)?;
+    divide_rows(usage, weights, s, columns, file);
+    Ok(length)
 }

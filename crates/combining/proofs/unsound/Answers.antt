@@ -1,21 +1,20 @@
--- `combining::unsound` meets its contract: before entry j, whether any before it is unsound. Assumes nothing.
+-- `combining::unsound` meets its contract: whether any of the entries before this one is unsound. Assumes nothing.
 use borrow.Author.Rules.{rules}
 use mathlib.Core.Path.{sym}
 use Rattle.laws.specs.Sums.{any_none}
 use Rattle.combining.specs.Arithmetic.{tried_more, tried-all}
 use Rattle.combining.proofs.unsound.Goals as goal
 
-pub loop-j-init : goal.loop-j-init
-loop-j-init c = (search rules, sym (any_none _))
+pub loop-entry-init : goal.loop-entry-init
+loop-entry-init c = sym (any_none _)
 
-pub loop-j-preserved : goal.loop-j-preserved
-loop-j-preserved c =
-    let at = c.loop-j in
-    let x = c.args.x.now in
-    let more = tried_more x at.j c.sound.result at.any in
-    (search rules, more (search rules) c.sound.ensures at.invariant.1)
+pub loop-entry-preserved : goal.loop-entry-preserved
+loop-entry-preserved c =
+    let at = c.loop-entry in
+    let more = tried_more c.args.x.now at.entry-index at.any c.sound.result c.loop-entry-test.true in
+    more (search rules) c.sound.ensures at.invariant
 
 pub returns : goal.returns
 returns c =
-    let at = c.loop-j in
-    tried-all _ _ _ at.invariant.0 c.loop-j-test.false at.invariant.1
+    let at = c.loop-entry in
+    tried-all _ _ _ c.requires at.auto.entry-index-end c.loop-entry-test.false at.invariant

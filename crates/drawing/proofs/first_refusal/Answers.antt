@@ -2,8 +2,8 @@
 use Rattle.drawing.specs.OwnWords.{after_own_lem, after_none}
 use Rattle.drawing.proofs.first_refusal.Goals as goal
 
-pub returns-in-Refused : goal.returns-in-Refused
-returns-in-Refused c = after_own_lem _ _ _ c.in-Refused.ensures
+pub returns-in-Err : goal.returns-in-Err
+returns-in-Err c = after_own_lem _ _ _ c.in-Err.ensures
 
-pub returns-in-Program : goal.returns-in-Program
-returns-in-Program c = after_none _ _ _ c.in-Program.ensures
+pub returns-in-Ok : goal.returns-in-Ok
+returns-in-Ok c = after_none _ _ _ c.in-Ok.ensures

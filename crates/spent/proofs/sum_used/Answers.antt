@@ -1,25 +1,23 @@
--- `spent::sum_used` meets its contract: before each string, the total is what those before it add up to. Assumes nothing.
-use borrow.Author.Rules.{rules}
-use native.Mathlib.Omega.{arith}
-use Rattle.laws.specs.Sums.{sum_to, sum_turn}
-use Rattle.spent.specs.Ways.{walk_fits, walk_adds}
+-- `spent::sum_used` meets its contract: what the walks on 64 strings have used is added up. Assumes nothing.
+use borrow.Author.Tests.{tests}
+use Rattle.std.proofs.Common.{rules, refl, ◌∙◌, ℕ, ◌*◌}
+use Rattle.std.specs.List.{range_with_len}
+use Rattle.std.proofs.lemmas.Iterator.{YieldsList-from_range, YieldsList-from_map}
+use Rattle.std.proofs.lemmas.Iterator.Consumers.{sum_by_from_yields_List, fits_by_from_yields_list}
+use Rattle.walk.specs.Walk.{used_at}
+use Rattle.spent.specs.Ways.{walks_add_up, walks_fit}
 use Rattle.spent.proofs.sum_used.Goals as goal
 
-pub loop-j-init : goal.loop-j-init
-unfolding sum_to
-loop-j-init c = (rw c.field.ensures.value at c.width-w.ensures, search rules, search rules, search rules)
+pub sum-requires-clause-fits : goal.sum-requires-clause-fits
+sum-requires-clause-fits c =
+    let f : ℕ → ℕ = λ j. used_at c.args.file.now c.args.strings.now (j * c.width-w.result) in
+    fits_by_from_yields_list f (range_with_len 0 64) c.map.result _
+    (YieldsList-from_map _ f (YieldsList-from_range 0 64 64 (cc) refl) c.map.ensures.closure (λ x r q k. search (rules, tests)))
+    (walks_fit _ _ _ _ (rw c.field.ensures.value at c.width-w.ensures) c.field.ensures.value c.field.ensures.upper_bound)
 
-pub overflow_add-total : goal.overflow_add-total
-overflow_add-total c =
-    let n = c.field in
-    record { fits = omega (arith, walk_fits _ _ _ _ _ n.ensures.value c.used-total.ensures, n.ensures.upper_bound) }
-
-pub loop-j-preserved : goal.loop-j-preserved
-loop-j-preserved c =
-    let n = c.field in
-    let at = c.loop-j in (
-      search rules,
-      search rules,
-      omega (arith, walk_fits _ _ _ _ _ n.ensures.value c.used-total.ensures, n.ensures.upper_bound, at.invariant.2),
-      sum_turn _ _ _ _ (walk_adds _ _ _ _ _ at.invariant.0 c.used-total.ensures) at.invariant.3,
-    )
+pub returns : goal.returns
+returns c =
+    let f : ℕ → ℕ = λ j. used_at c.args.file.now c.args.strings.now (j * c.width-w.result) in
+    sum_by_from_yields_List f (range_with_len 0 64) c.map.result _ c.sum.ensures.ran
+    (YieldsList-from_map _ f (YieldsList-from_range 0 64 64 (cc) refl) c.map.ensures.closure (λ x r q k. search (rules, tests))) ∙
+    walks_add_up _ _ _ (rw c.field.ensures.value at c.width-w.ensures)

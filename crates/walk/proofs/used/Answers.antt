@@ -6,13 +6,11 @@ use Rattle.walk.proofs.used.Goals as goal
 
 pub overflow_add-result : goal.overflow_add-result
 overflow_add-result c =
-    let n = c.field-n in
-    let below = draw_at_column _ _ _ _ _ c.in-Hit.ensures in
-    record { fits = omega (arith, below, n.ensures.value, n.ensures.upper_bound) }
+    let below = draw_at_column _ _ _ _ _ c.in-Some.ensures in
+    record { fits = omega (arith, below, c.field-n.ensures.value, c.field-n.ensures.upper_bound) }
 
-pub returns-in-Hit : goal.returns-in-Hit
-returns-in-Hit c = hit-used _ _ _ _ c.in-Hit.ensures
+pub returns-in-Some : goal.returns-in-Some
+returns-in-Some c = hit-used _ _ _ _ c.in-Some.ensures
 
-pub returns-in-Miss : goal.returns-in-Miss
-returns-in-Miss c =
-    c.field-n.ensures.value ∙ miss_used _ _ c.in-Miss.ensures
+pub returns-in-None : goal.returns-in-None
+returns-in-None c = c.field-n.ensures.value ∙ miss_used _ _ c.in-None.ensures

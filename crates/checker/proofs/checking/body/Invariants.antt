@@ -2,8 +2,8 @@
 use Rattle.checker.specs.Checking.{Checking}
 use Rattle.checker.proofs.checking.body.Given as goal
 
-abbrev pub invariant-loop-more : goal.invariant-loop-more
-invariant-loop-more l = Checking l.file l.p l.more l.at l.seen.written l.seen.set
+abbrev pub invariant-loop-left : goal.invariant-loop-left
+invariant-loop-left l = Checking l.file l.p l.left.more l.left.at l.seen.written l.seen.set
 
-abbrev pub decreases-loop-more : goal.decreases-loop-more
-decreases-loop-more l = l.more
+abbrev pub decreases-loop-left : goal.decreases-loop-left
+decreases-loop-left l = l.left.more

@@ -1,7 +1,7 @@
--- `checker::mark_register` meets its contract: each kind but OUTPUT writes one register. Answers stand kind by kind. Assumes nothing.
+-- `checker::mark_register` meets its contract: each kind but OUTPUT writes one register. Assumes nothing.
 use Prim.Native.Nat.{ℕ}
-use mathlib.Core.Path.{ap}
-use mathlib.Core.List.{List}
+use Rattle.std.proofs.Common.{ap, ⊎_elim}
+use Rattle.std.specs.Prelude.{◌≡◌, List, [], ◌∷◌}
 use Rattle.programs.specs.Instructions.{uses}
 use Rattle.programs.specs.declared.description.Instruction.{Instruction}
 use Rattle.checker.specs.Operands.{unmarked, marked}
@@ -11,22 +11,11 @@ abbrev writes : Instruction → List ℕ
 writes i = (uses i).writes
 
 pub returns-in-Ones : goal.returns-in-Ones
-returns-in-Ones c = marked _ _ _ _ (ap writes c.in-Ones.is) c.requires
-
-pub returns-in-Zero : goal.returns-in-Zero
-returns-in-Zero c = marked _ _ _ _ (ap writes c.in-Zero.is) c.requires
-
-pub returns-in-Input : goal.returns-in-Input
-returns-in-Input c = marked _ _ _ _ (ap writes c.in-Input.is) c.requires
-
-pub returns-in-Not : goal.returns-in-Not
-returns-in-Not c = marked _ _ _ _ (ap writes c.in-Not.is) c.requires
-
-pub returns-in-And : goal.returns-in-And
-returns-in-And c = marked _ _ _ _ (ap writes c.in-And.is) c.requires
-
-pub returns-in-Or : goal.returns-in-Or
-returns-in-Or c = marked _ _ _ _ (ap writes c.in-Or.is) c.requires
+returns-in-Ones c =
+    let writes_it : writes c.args.i ≡ c.in-Ones.to ∷ [] =
+    ⊎_elim (ap writes) (⊎_elim (ap writes) (⊎_elim (λ x. ap writes x.1) (⊎_elim (λ x. ap writes x.1)
+    (⊎_elim (λ x. ap writes x.2) (λ x. ap writes x.2))))) c.in-Ones.is in
+    marked _ _ _ _ writes_it c.requires
 
 pub returns-in-Output : goal.returns-in-Output
 returns-in-Output c = unmarked _ _ (ap writes c.in-Output.is)

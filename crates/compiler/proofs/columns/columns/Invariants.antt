@@ -1,5 +1,5 @@
 -- `compiler::columns` meets its contract: the columns passed are written, and h is live before the next. Assumes nothing.
-use Prim.Native.Nat.{◌-◌}
+use Rattle.std.specs.Prelude.{ℕ}
 use Rattle.compiler.specs.Translation.{column}
 use Rattle.compiler.specs.Emitting.{Parts}
 use Rattle.compiler.specs.EmittingColumns.{packed_rows, Live}
@@ -7,8 +7,6 @@ use Rattle.compiler.proofs.columns.columns.Given as goal
 
 abbrev pub invariant-loop-c : goal.invariant-loop-c
 invariant-loop-c l =
-    Live (packed_rows l.bytes l.stride) l.m l.c l.h ×
-    Parts (column l.k l.m (packed_rows l.bytes l.stride)) l.n l.initial.to l.initial.out l.c l.out l.to
-
-abbrev pub decreases-loop-c : goal.decreases-loop-c
-decreases-loop-c l = l.n - l.c
+    let m : ℕ = l.rows.layout.m in
+    let bits : ℕ → ℕ → ℕ = packed_rows l.rows.bytes.now l.rows.stride in
+    Live bits m l.c l.h × Parts (column l.rows.layout.k m bits) l.n l.initial.to l.initial.out l.c l.out l.to

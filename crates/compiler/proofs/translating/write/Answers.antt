@@ -19,7 +19,7 @@ pub columns-at-requires : goal.columns-at-requires
 columns-at-requires c =
     let asked = c.requires in
     let plan = planned asked.0 asked.1 asked.2 in
-    rw c.width.ensures (
+    rw asked.3 (
       record { fits = omega (arith, plan.parts) },
       record { fit = plan.fit; few_rows = search rules; few_bytes = search rules },
       search rules,
@@ -30,12 +30,12 @@ pub end-requires : goal.end-requires
 end-requires c =
     let asked = c.requires in
     let plan = planned asked.0 asked.1 asked.2 in
-    let written = rw c.width.ensures at c.columns-at.ensures in
+    let written = rw asked.3 at c.columns-at.ensures in
     (record { fits = omega (arith, plan.parts, written.behind) }, plan.fit.outputs)
 
 pub returns : goal.returns
 returns c =
     let asked = c.requires in
     program-written _ asked.1 (planned asked.0 asked.1 asked.2) c.describe.ensures
-    c.write_header.ensures.1 c.begin-at.ensures (rw c.width.ensures at c.columns-at.ensures)
+    c.write_header.ensures.1 c.begin-at.ensures (rw asked.3 at c.columns-at.ensures)
     c.end.ensures

@@ -1,17 +1,16 @@
--- `fields::any_spare` meets its contract: no string passed has a spare bit set. Assumes nothing.
-use borrow.Author.Rules.{rules}
-use mathlib.Core.Path.{sym, ◌∙◌}
-use Rattle.laws.specs.Sums.{any_none, any_more, any_found}
+-- `fields::any_spare` meets its contract: the strings' tests are those of a range. Assumes nothing.
+use mathlib.Core.Path.{refl, ◌∙◌}
+use native.Mathlib.Omega.{arith}
+use Rattle.std.proofs.Common.{rules, tests}
+use Prim.Native.Nat.{◌*◌}
+use Rattle.std.proofs.lemmas.Iterator.{YieldsList-from_range}
+use Rattle.std.proofs.lemmas.Iterator.Search.{any_from_yields_List}
+use Rattle.laws.specs.Sums.{any_range}
+use Rattle.fields.specs.Fields.{spare, width}
 use Rattle.fields.proofs.packing.any_spare.Goals as goal
 
-pub loop-v-init : goal.loop-v-init
-loop-v-init c = (search rules, search rules, any_none _)
-
-pub returns-then-spare_set : goal.returns-then-spare_set
-returns-then-spare_set c =
-    sym (any_found _ _ _ c.loop-v-test.true (rw (← c.loop-v.invariant.1) (sym c.spare_set.ensures ∙ c.if-spare_set.true)))
-
-pub loop-v-preserved : goal.loop-v-preserved
-loop-v-preserved c =
-    let at = c.loop-v in
-    (search rules, search rules, any_more _ _ (rw (← at.invariant.1) (sym c.spare_set.ensures ∙ c.if-spare_set.false)) at.invariant.2)
+pub returns : goal.returns
+returns c =
+    any_from_yields_List (λ v. spare c.args.bytes.now c.args.n (v * width c.args.n)) _ _ _ c.any.ensures.ran
+    (YieldsList-from_range 0 c.args.count c.args.count refl (omega arith)) (λ x b q k. search (rules, tests)) ∙
+    any_range _ _

@@ -1,17 +1,18 @@
 -- `files::check` meets its contract: the header's checks, then those of the rows. Assumes nothing.
-use mathlib.Core.Path.{sym}
+use mathlib.Core.Path.{sym, ◌∙◌}
+use Rattle.fields.specs.Refusal.{passed_on}
 use Rattle.files.specs.Files.{matrix_under}
 use Rattle.files.specs.Checks.{header-says}
 use Rattle.files.proofs.reading.check.Goals as goal
 
 pub body-requires : goal.body-requires
-body-requires c = (header-says _ _ (sym c.in-Matrix.ensures)).sized
+body-requires c = (header-says _ _ (sym c.in_ok-size.ensures)).sized
 
-pub returns-in-Refused : goal.returns-in-Refused
+pub returns-in_err-size : goal.returns-in_err-size
 unfolding matrix_under
-returns-in-Refused c = rw (← c.in-Refused.ensures)
+returns-in_err-size c = passed_on c.from_residual.result _ c.from_residual.ensures.1 ∙ rw (← c.in_err-size.ensures)
 
-pub returns-in-Matrix : goal.returns-in-Matrix
+pub returns : goal.returns
 unfolding matrix_under
-returns-in-Matrix c =
-    rw (← c.in-Matrix.ensures) c.body.ensures
+returns c =
+    rw (← c.in_ok-size.ensures) c.body.ensures

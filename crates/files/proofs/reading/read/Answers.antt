@@ -2,6 +2,7 @@
 use native.Mathlib.Omega.{arith}
 use mathlib.Core.Path.{refl, ◌∙◌}
 use native.Mathlib.Nat.{mul-le-mul}
+use Rattle.fields.specs.Refusal.{passed_on}
 use Rattle.laws.specs.Lists.{rest_is}
 use Rattle.laws.specs.Lay.{lay-is}
 use Rattle.laws.specs.Outcome.{ends-refused, ends-given}
@@ -9,32 +10,32 @@ use Rattle.files.specs.Files.{unpacked}
 use Rattle.files.specs.Checks.{checked-whole, read_refused, read_short, read_gives}
 use Rattle.files.proofs.reading.read.Goals as goal
 
-pub overflow_mul-rows : goal.overflow_mul-rows
-overflow_mul-rows c =
-    let w = checked-whole _ _ c.in-Matrix.ensures in
+pub overflow_mul-size : goal.overflow_mul-size
+overflow_mul-size c =
+    let w = checked-whole _ _ c.in_ok-size.ensures in
     record { fits = omega (arith, mul-le-mul w.few_rows w.few_columns) }
 
-pub returns-then-entries-rows : goal.returns-then-entries-rows
-returns-then-entries-rows c =
-    ends-refused _ _ _ _ _ (read_short _ _ _ c.in-Matrix.ensures c.if-entries-rows.true)
+pub returns-then-entries-size : goal.returns-then-entries-size
+returns-then-entries-size c =
+    ends-refused _ _ _ _ _ (read_short _ _ _ c.in_ok-size.ensures c.if-entries-size.true)
 
 pub slice_bounds-unpack-count : goal.slice_bounds-unpack-count
 slice_bounds-unpack-count c =
-    let w = checked-whole _ _ c.in-Matrix.ensures in
+    let w = checked-whole _ _ c.in_ok-size.ensures in
     omega (arith, w.long)
 
-pub returns-in-Refused : goal.returns-in-Refused
-returns-in-Refused c =
-    ends-refused _ _ _ _ _ (read_refused _ _ _ c.in-Refused.ensures)
+pub returns-in_err-size : goal.returns-in_err-size
+returns-in_err-size c =
+    rw (passed_on c.from_residual.result _ c.from_residual.ensures.1) (ends-refused _ _ _ _ _ (read_refused _ _ _ c.in_err-size.ensures))
 
-pub returns-else-entries-rows : goal.returns-else-entries-rows
+pub returns : goal.returns
 unfolding unpacked
-returns-else-entries-rows c =
+returns c =
     ends-given _ _ _ _ _ _ _
-    (read_gives _ _ _ c.in-Matrix.ensures c.if-entries-rows.false) refl
+    (read_gives _ _ _ c.in_ok-size.ensures c.if-entries-size.false) refl
     (rw rest_is at c.unpack.ensures ∙ lay-is _ _)
 
 pub slice_bounds-unpack-start : goal.slice_bounds-unpack-start
 slice_bounds-unpack-start c =
-    let w = checked-whole _ _ c.in-Matrix.ensures in
+    let w = checked-whole _ _ c.in_ok-size.ensures in
     omega (arith, w.long)

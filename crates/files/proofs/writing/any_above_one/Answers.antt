@@ -1,15 +1,14 @@
--- `files::any_above_one` meets its contract: no entry passed is above 1. Assumes nothing.
-use borrow.Author.Rules.{rules}
-use mathlib.Core.Path.{sym}
-use borrow.Author.Tests.{lt-ltb, le-ltb}
-use Rattle.laws.specs.Sums.{any_none, any_more, any_found}
+-- `files::any_above_one` meets its contract: the entries' tests are those of a list. Assumes nothing.
+use mathlib.Core.Path.{◌∙◌}
+use Rattle.std.proofs.Common.{rules, tests}
+use Rattle.std.specs.Prelude.{ltb, take}
+use Rattle.std.proofs.lemmas.Iterator.{YieldsList-from_slice}
+use Rattle.std.proofs.lemmas.Iterator.Search.{any_from_yields_List}
+use Rattle.laws.specs.Sums.{any_taken}
 use Rattle.files.proofs.writing.any_above_one.Goals as goal
 
-pub loop-i-init : goal.loop-i-init
-loop-i-init c = (search rules, any_none _)
-
-pub returns-then-entries-i-gt1 : goal.returns-then-entries-i-gt1
-returns-then-entries-i-gt1 c = sym (any_found _ _ _ c.loop-i-test.true (lt-ltb _ _ c.if-entries-i-gt1.true))
-
-pub loop-i-preserved : goal.loop-i-preserved
-loop-i-preserved c = (search rules, any_more _ _ (le-ltb _ _ c.if-entries-i-gt1.false) c.loop-i.invariant.1)
+pub returns : goal.returns
+returns c =
+    any_from_yields_List (ltb 1) _ _ _ c.any.ensures.ran
+    (YieldsList-from_slice (take c.args.n c.args.entries.now) cc) (λ x b q k. search (rules, tests)) ∙
+    any_taken 0 (ltb 1) _ _ c.requires

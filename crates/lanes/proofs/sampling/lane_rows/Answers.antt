@@ -10,4 +10,4 @@ returns c =
     let m = suited_means _ _ c.requires.0 in
     lanes_read _ _ _ _ _ _ (omega (arith, m.2, few_bits _ m.1))
     (given-lanes _ _ m.0 _ _ c.output.ensures c.below.ensures) c.spread.ensures
-    c.transpose_front.ensures
+    c.transpose.ensures

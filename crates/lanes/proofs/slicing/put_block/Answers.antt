@@ -3,13 +3,14 @@ use borrow.Author.Rules.{rules}
 use native.Mathlib.Omega.{arith}
 use mathlib.Core.Path.{refl, ap, ◌∙◌}
 use Rattle.laws.specs.Lay.{upto-none, laid_store}
-use Rattle.lanes.specs.Transposing.{transposed}
+use Rattle.lanes.specs.Transposing.{transposed, table-front}
 use Rattle.lanes.specs.Blocks.{rows-table, block_bytes, block_word}
 use Rattle.lanes.proofs.slicing.put_block.Goals as goal
 
 pub transpose-requires : goal.transpose-requires
 transpose-requires c =
-    rw c.fill.ensures (rows-table _ _ _ _ (omega (arith, c.lesser-m.ensures)))
+    let table = rows-table _ _ _ _ (omega (arith, c.lesser-m.ensures)) in
+    rw c.fill.ensures (table, table-front _ table)
 
 pub loop-i-init : goal.loop-i-init
 loop-i-init c =

@@ -5,10 +5,9 @@ use Rattle.machine.proofs.runs.carry_on.Goals as goal
 
 pub run_from-requires : goal.run_from-requires
 run_from-requires c =
-    run_formed c.args.fresh _ _ c.args.inputs.now c.args.registers.now c.args.outputs.now _ _ _ _ c.prepare.ensures
-    c.prepare-2.ensures c.requires.0 _ c.skip-at.ensures _ c.lesser-steps.ensures
+    run_formed _ _ c.args.inputs.now c.args.registers.now c.args.outputs.now _ _ c.requires.0 _ c.skip.ensures _ c.min-steps.ensures
 
 pub returns : goal.returns
 returns c =
-    run_ends c.args.fresh _ _ c.args.inputs.now c.args.registers.now c.args.outputs.now _ _ _ _ c.prepare.ensures
-    c.prepare-2.ensures c.requires.0 _ c.skip-at.ensures _ c.lesser-steps.ensures _ _ c.run_from.ensures
+    run_ends _ _ c.args.inputs.now c.args.registers.now c.args.outputs.now _ _ c.requires.0 _ c.skip.ensures _
+    c.min-steps.ensures _ _ c.run_from.ensures

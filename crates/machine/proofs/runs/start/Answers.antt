@@ -1,39 +1,47 @@
 -- `machine::start` meets its contract: the program is checked, then its parts of what is lent are cleared and run. Assumes nothing.
+use borrow.Author.Rules.{rules}
 use native.Mathlib.Omega.{arith}
 use Prim.Native.Nat.{ℕ}
 use mathlib.Core.Path.{refl}
+use Rattle.fields.specs.Refusal.{passed_on}
 use Rattle.machine.specs.Meaning.{word_gates}
 use Rattle.machine.specs.Calls.{Call, starting}
 use Rattle.machine.specs.Answers.{Fits, room_means}
-use Rattle.machine.proofs.Answers.{parts-formed, call_refused, call_short, call_ends}
+use Rattle.machine.proofs.Answers.{parts-formed, call_refused, call_short, zeros-cleared, call_ends}
 use Rattle.machine.proofs.runs.start.Goals as goal
-use Rattle.machine.proofs.runs.start.Goals.{Else-lacks}
+use Rattle.machine.proofs.runs.start.Goals.{Start, Else-lacks}
 
--- the call, and what is known of its program
-abbrev called : Else-lacks → Call ℕ
+-- the call
+abbrev called : Start → Call ℕ
 called c = starting word_gates c.args.program.now c.args.inputs.now c.args.registers.now c.args.outputs.now
 
-fits : (c : Else-lacks) → Fits (called c) c.in-Program.p
+-- what is known of its program
+fits : (c : Else-lacks) →
+    Fits (starting word_gates c.args.program.now c.args.inputs.now c.args.registers.now c.args.outputs.now) c.in_ok-p.p
 fits c =
     record {
-      checked = c.in-Program.ensures;
+      checked = c.in_ok-p.ensures;
       here = omega arith;
       room = room_means _ _ _ _ _ c.lacks.ensures c.if-lacks.false;
     }
 
 pub returns-then-lacks : goal.returns-then-lacks
 returns-then-lacks c =
-    call_short (starting word_gates c.args.program.now c.args.inputs.now c.args.registers.now c.args.outputs.now) c.args.budget _
-    c.in-Program.ensures (omega arith) _
+    call_short (called (goal.at.returns-then-lacks c).Start) c.args.budget _
+    c.in_ok-p.ensures (omega arith) _
     c.lacks.ensures c.if-lacks.true
 
 pub carry_on-requires : goal.carry_on-requires
-carry_on-requires c = let f = fits (goal.at.carry_on-requires c).Else-lacks in (parts-formed f, f.here)
+carry_on-requires c =
+    let f = fits (goal.at.carry_on-requires c).Else-lacks in
+    (parts-formed f _ _ (search rules) (search rules), f.here)
 
-pub returns-in-Refused : goal.returns-in-Refused
-returns-in-Refused c =
-    call_refused (starting word_gates c.args.program.now c.args.inputs.now c.args.registers.now c.args.outputs.now) c.args.budget _
-    c.in-Refused.ensures
+pub returns-in_err-p : goal.returns-in_err-p
+returns-in_err-p c =
+    call_refused (called (goal.at.returns-in_err-p c).Start) c.args.budget _
+    (passed_on c.from_residual.result _ c.from_residual.ensures.1) c.in_err-p.ensures
 
-pub returns-else-lacks : goal.returns-else-lacks
-returns-else-lacks c = call_ends (fits (goal.at.returns-else-lacks c).Else-lacks) refl c.carry_on.ensures
+pub returns : goal.returns
+returns c =
+    let f = fits (goal.at.returns c).Else-lacks in
+    call_ends f refl c.carry_on.ensures (zeros-cleared f (c.fill.ensures.after (λ y e. e)) (c.fill-2.ensures.after (λ y e. e)))

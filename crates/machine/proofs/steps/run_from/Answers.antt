@@ -2,22 +2,22 @@
 use Rattle.machine.specs.Turns.{going_step, going_along, going_ready, going_known, going_done}
 use Rattle.machine.proofs.steps.run_from.Goals as goal
 
-pub step_at-at-requires : goal.step_at-at-requires
-step_at-at-requires c = going_ready c.loop-more.invariant c.loop-more-test.true
+pub step_at-requires : goal.step_at-requires
+step_at-requires c = going_ready c.loop-left.invariant c.loop-left-test.true
 
-pub and_run-a-requires : goal.and_run-a-requires
-and_run-a-requires c =
-    going_known (going_step c.loop-more.invariant c.loop-more-test.true c.step_at-at.ensures)
+pub run_of-left-requires : goal.run_of-left-requires
+run_of-left-requires c =
+    going_known (going_step c.loop-left.invariant c.loop-left-test.true c.step_at.ensures)
 
-pub or_run-o-requires : goal.or_run-o-requires
-or_run-o-requires c =
-    going_known (going_along (going_step c.loop-more.invariant c.loop-more-test.true c.step_at-at.ensures) c.and_run-a.ensures)
+pub run_of-left-requires-in-loop-left : goal.run_of-left-requires-in-loop-left
+run_of-left-requires-in-loop-left c =
+    going_known (going_along (going_step c.loop-left.invariant c.loop-left-test.true c.step_at.ensures) c.run_of-left.ensures)
 
-pub loop-more-preserved : goal.loop-more-preserved
-loop-more-preserved c =
+pub loop-left-preserved : goal.loop-left-preserved
+loop-left-preserved c =
     going_along
-    (going_along (going_step c.loop-more.invariant c.loop-more-test.true c.step_at-at.ensures) c.and_run-a.ensures)
-    c.or_run-o.ensures
+    (going_along (going_step c.loop-left.invariant c.loop-left-test.true c.step_at.ensures) c.run_of-left.ensures)
+    c.run_of-left-in-loop-left.ensures
 
 pub returns : goal.returns
-returns c = going_done c.loop-more.invariant c.loop-more-test.false
+returns c = going_done c.loop-left.invariant c.loop-left-test.false

@@ -1,13 +1,13 @@
--- `pool::refill` meets its contract: what `renew` leaves is what a refill leaves. Assumes nothing.
-use Rattle.std.proofs.Common.{◌∙◌, ap, length}
-use Rattle.pool.specs.Deciding.{stands_by}
-use Rattle.pool.specs.Ways.{refill-ends}
-use Rattle.pool.specs.declared.signers.Sums.{Sums}
+-- `pool::refill` meets its contract: records that stand are cleared. Assumes nothing.
+use Rattle.laws.specs.Outcome.{ends-refused}
+use Rattle.fields.specs.Refusal.{passed_on}
+use Rattle.pool.specs.Ways.{refill_refused, refill_clears, clear_ends}
 use Rattle.pool.proofs.pools.refill.Goals as goal
 
+pub returns-in_err-stands : goal.returns-in_err-stands
+returns-in_err-stands c = rw (passed_on c.from_residual.result _ c.from_residual.ensures.1)
+    (ends-refused _ _ _ _ _ (refill_refused c.args.words c.args.signers.now _ c.in_err-stands.ensures))
+
 pub returns : goal.returns
-returns c =
-    let xs = c.args.signers.now in
-    let e = c.stands-fit.ensures ∙ ap (λ (a : Sums). stands_by c.args.words (length xs) a) c.scan.ensures.0 in
-    let a = refill-ends c.args.words xs 0 c.stands-fit.result c.renew.result e c.renew.ensures.0 in
-    (a.0, c.renew.ensures.1 ∙ a.1)
+returns c = rw c.clear.ensures
+    (clear_ends c.args.signers.now _ (refill_clears c.args.words c.args.signers.now _ c.in_ok-stands.ensures))

@@ -4,4 +4,4 @@ use Rattle.pool.specs.Scanning.{clearing_done}
 use Rattle.pool.proofs.signers.clear.Goals as goal
 
 pub returns : goal.returns
-returns c = clearing_done c.args.signers.now c.loop-i.i c.loop-i.signers (omega arith) c.loop-i.invariant
+returns c = clearing_done c.args.signers.now c.loop-s.s-index c.loop-s.signers (omega arith) c.loop-s.invariant

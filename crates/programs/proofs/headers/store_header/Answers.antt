@@ -1,7 +1,7 @@
--- `programs::store_header` meets its contract: field after field. Assumes nothing.
-use Rattle.programs.specs.Reading.{header-stored}
+-- `programs::store_header` meets its contract: the fields are the header's. Assumes nothing.
+use Rattle.programs.specs.Header.{header_bytes}
 use Rattle.programs.proofs.headers.store_header.Goals as goal
 
 pub returns : goal.returns
-returns c =
-    header-stored _ _ _ _ _ _ c.put_five.ensures c.put.ensures c.put-2.ensures c.put-3.ensures c.requires.1
+unfolding header_bytes
+returns c = c.put_fields.ensures

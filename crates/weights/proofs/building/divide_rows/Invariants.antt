@@ -1,7 +1,6 @@
 -- `weights::divide_rows` meets its contract: v rows are laid. Assumes nothing.
 use mathlib.Core.Path.{◌≡◌}
-use Prim.Native.Nat.{◌-◌, ◌≤◌}
-use lib.ListN.{length, get_or}
+use lib.ListN.{get_or}
 use Rattle.laws.specs.Lists.{blocks}
 use Rattle.laws.specs.Lay.{Laid}
 use Rattle.fields.specs.Fields.{packed, width}
@@ -10,8 +9,5 @@ use Rattle.weights.proofs.building.divide_rows.Given as goal
 
 abbrev pub invariant-loop-v : goal.invariant-loop-v
 invariant-loop-v l =
-    (l.v ≤ length l.weights) × (l.bytes ≡ width l.n) ×
+    (l.bytes ≡ width l.n) ×
     Laid 8 (blocks l.v (λ v'. packed l.n (quotient l.s (counted l.usage v' (get_or l.weights v' 0))))) l.initial.file l.file
-
-abbrev pub decreases-loop-v : goal.decreases-loop-v
-decreases-loop-v l = length l.weights - l.v

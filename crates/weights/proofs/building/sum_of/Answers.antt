@@ -22,11 +22,10 @@ overflow_add-s c = record { fits = omega (arith, small (goal.at.overflow_add-s c
 
 pub loop-v-preserved : goal.loop-v-preserved
 loop-v-preserved c = (
-  search rules,
-  sum_turn _ _ _ _ c.counted_weight-s.ensures c.loop-v.invariant.1,
+  sum_turn _ _ _ _ c.counted_weight-s.ensures c.loop-v.invariant.0,
   omega (arith, small (goal.at.loop-v-preserved c).After-counted_weight-s),
 )
 
 pub returns : goal.returns
 unfolding sum
-returns c = (sum_done _ _ _ _ c.loop-v.invariant.0 c.loop-v-test.false c.loop-v.invariant.1, search rules)
+returns c = (sum_done _ _ _ _ (omega arith) c.loop-v-test.false c.loop-v.invariant.0, search rules)

@@ -1,27 +1,28 @@
--- `weights::divide_row` meets its contract: q bytes are laid, and what is left is what 8 × q steps leave. Assumes nothing.
+-- `weights::divide_row` meets its contract: the bits found are the row that is packed. Assumes nothing.
+use native.Mathlib.Omega.{arith}
+use mathlib.Core.Path.{◌≡◌, ◌∙◌}
 use borrow.Author.Rules.{rules}
-use mathlib.Core.Path.{refl, ◌∙◌}
-use Rattle.laws.specs.Lay.{upto-none, laid_store, upto_done}
-use Rattle.fields.specs.Fields.{packed}
-use Rattle.weights.specs.Division.{rest-none, rest_byte, byte_on}
+use lib.ListN.{length, get_or}
+use Rattle.weights.specs.Division.{row_le, row-packed}
 use Rattle.weights.proofs.dividing.divide_row.Goals as goal
+use Rattle.weights.proofs.dividing.divide_row.Goals.{After-divide}
 
-pub loop-q-init : goal.loop-q-init
-loop-q-init c = (search rules, search rules, rest-none _ _, search rules, upto-none _ _ _)
+long : (c : After-divide) → length c.divide.new.row ≡ c.args.n
+long c = search rules
 
-pub loop-q-preserved : goal.loop-q-preserved
-loop-q-preserved c =
-    let at = c.loop-q in
-    let next = c.divide_byte-next.ensures in (
-      search rules,
-      search rules,
-      next.rest_is ∙ rest_byte _ _ _ _ at.invariant.2,
-      next.small,
-      laid_store _ _ _ _ _ _ _ refl (search rules) (next.byte_is ∙ byte_on _ _ _ _ _ at.invariant.2) at.invariant.4,
+pub pack_bits-requires : goal.pack_bits-requires
+pack_bits-requires c =
+    let long = long (goal.at.pack_bits-requires c).After-divide in
+    let le = row_le _ _ _ _ c.divide.ensures in (
+      omega arith,
+      omega arith,
+      record {
+        callable = λ i h. search rules;
+        small = λ i r h e. search (rules, le);
+      },
     )
 
 pub returns : goal.returns
-unfolding packed
 returns c =
-    let at = c.loop-q in
-    upto_done _ _ _ _ _ _ (rw at.invariant.1 at at.invariant.0) (rw at.invariant.1 at c.loop-q-test.false) at.invariant.4
+    let long = long (goal.at.returns c).After-divide in
+    rw long at (c.pack_bits.ensures (λ i. get_or c.divide.new.row i 0) (λ i r h e. search rules) ∙ row-packed _ _ _ _ c.divide.ensures)

@@ -1,31 +1,23 @@
--- `programs::Instruction::store` meets its contract. Answers stand kind by kind. Assumes nothing.
+-- `programs::Instruction::store` meets its contract: its length, its kind and its operands are stored. Assumes nothing.
+use Rattle.std.proofs.Common.{⊎_elim}
 use Rattle.programs.specs.Instructions.{instruction_bytes}
 use Rattle.programs.proofs.description.Instruction.store.Goals as goal
 
 pub returns-in-Ones : goal.returns-in-Ones
 unfolding instruction_bytes
-returns-in-Ones c = rw c.in-Ones.is c.put_three.ensures
-
-pub returns-in-Zero : goal.returns-in-Zero
-unfolding instruction_bytes
-returns-in-Zero c = rw c.in-Zero.is c.put_three-in-Zero.ensures
+returns-in-Ones c =
+    let stored = c.put_fields-in-Ones.ensures in
+    rw (← c.length-n.ensures, ← c.kind-k.ensures) (⊎_elim (λ e. rw e stored) (λ e. rw e stored) c.in-Ones.is)
 
 pub returns-in-Input : goal.returns-in-Input
 unfolding instruction_bytes
-returns-in-Input c = rw c.in-Input.is c.put_four.ensures
-
-pub returns-in-Not : goal.returns-in-Not
-unfolding instruction_bytes
-returns-in-Not c = rw c.in-Not.is c.put_four-in-Not.ensures
+returns-in-Input c =
+    let stored = c.put_fields-in-Input.ensures in
+    rw (← c.length-n.ensures, ← c.kind-k.ensures)
+    (⊎_elim (λ e. rw e stored) (λ e. ⊎_elim (λ e. rw e stored) (λ e. rw e stored) e) c.in-Input.is)
 
 pub returns-in-And : goal.returns-in-And
 unfolding instruction_bytes
-returns-in-And c = rw c.in-And.is c.put_five.ensures
-
-pub returns-in-Or : goal.returns-in-Or
-unfolding instruction_bytes
-returns-in-Or c = rw c.in-Or.is c.put_five-in-Or.ensures
-
-pub returns-in-Output : goal.returns-in-Output
-unfolding instruction_bytes
-returns-in-Output c = rw c.in-Output.is c.put_four-in-Output.ensures
+returns-in-And c =
+    let stored = c.put_fields.ensures in
+    rw (← c.length-n.ensures, ← c.kind-k.ensures) (⊎_elim (λ e. rw e stored) (λ e. rw e stored) c.in-And.is)
