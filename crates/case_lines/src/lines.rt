@@ -39,34 +39,47 @@ fn next_line<R: BufRead, W: Write>(
     Ok(Some(line))
 }
 
-// Runs what a program does with a line, without its end, on each line. There may be lines that were not read: that is said.
-pub fn run_lines<F: FnMut(&mut Out<'_>, &[u8]) -> io::Result<()>>(
-    rt: &HostRuntime,
-    mut run: F,
-) -> io::Result<()>
-    requires { F.IsAlwaysCallable run }
-{
+// What a program does with a line, without its end.
+pub trait Lines {
+    fn run(&mut self, out: &mut Out<'_>, line: &[u8]) -> io::Result<()>;
+}
+
+// Runs a program on each line. There may be lines that were not read: that is said.
+pub fn run_lines<L: Lines>(rt: &HostRuntime, lines: &mut L) -> io::Result<()> {
     let mut input = BufReader::new(rt.alloc(), rt.reader())?;
     let mut out = BufWriter::new(rt.alloc(), io::writer(rt))?;
     for _ in 0..LINES {
         let Some(line) = next_line(rt.alloc(), &mut input, &mut out)? else {
             return out.flush();
         };
-        run(&mut out, line.strip_suffix(b"\n").unwrap_or(&line))?;
+        lines.run(&mut out, line.strip_suffix(b"\n").unwrap_or(&line))?;
     }
     writeln!(out, "too many lines")?;
     out.flush()
 }
 
-// Runs the case of each line. Its answer is a line.
-pub fn run_cases<F: Fn(&mut Out<'_>, Case) -> io::Result<()>>(
-    rt: &HostRuntime,
-    run: F,
-) -> io::Result<()>
-    requires { F.IsAlwaysCallable run }
-{
-    run_lines(rt, |out, line| {
-        run(out, Case::new(rt.alloc(), line))?;
+// What a program does with a case.
+pub trait Cases {
+    fn run(&mut self, out: &mut Out<'_>, case: Case) -> io::Result<()>;
+}
+
+// The answers of a program to cases: each is a line.
+#[derive(Drop)]
+struct Answers<C> {
+    alloc: Global,
+    cases: C,
+}
+
+impl<C: Cases> Lines for Answers<C> {
+    fn run(&mut self, out: &mut Out<'_>, line: &[u8]) -> io::Result<()> {
+        self.cases.run(out, Case::new(self.alloc, line))?;
         writeln!(out)
-    })
+    }
+}
+
+// Runs a program on the case of each line.
+pub fn run_cases<C: Cases + Drop>(rt: &HostRuntime, cases: C) -> io::Result<()> {
+    let alloc = rt.alloc();
+    let mut answers = Answers { alloc, cases };
+    run_lines(rt, &mut answers)
 }

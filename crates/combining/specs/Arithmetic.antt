@@ -2,7 +2,7 @@
 use Rattle.std.specs.Prelude.{ℕ, suc, ◌+◌, ◌≤◌, ◌<◌, ◌≡◌, refl, Bool, true, false, cond, not, ◌&&◌, ◌||◌, List, eqb, ℤ, pos, negsuc, neg_ℤ}
 use Rattle.std.specs.Prelude.{nat_abs, ◌+ℤ◌, ◌*ℤ◌, length, take}
 use Rattle.std.proofs.Common.{length-take, length-take-le, get_or-take}
-use Rattle.std.proofs.Common.{sym, ap, ap₂, ◌∙◌, subst, ⊎_elim, one-mul, arith, eqb-true, to_z-of_z}
+use Rattle.std.proofs.Common.{sym, ap, ap₂, ◌∙◌, subst, ⊎_elim, one-mul, add-one, arith, eqb-true, to_z-of_z}
 use Rattle.std.proofs.Math.Facts.{to_z_pos, sfits_widen, sfits_lit}
 use Rattle.std.specs.Int.{w16, w32}
 use mir.Val.{SFits, to_z, of_z, bool_byte}
@@ -176,17 +176,26 @@ lane_result first second j x1 x2 x3 x4 r s1 s2 s3 s4 h f e = kept _ _ f (e ∙ r
     is : (xs : List ℤ) → Samples xs → passed (entry xs j) ≡ entry xs j
     is xs s = read (entry xs j) (sample-fits (entry xs j) (s.each j h))
 
--- one more entry is tried, of the first 64
-pub tried_more : (xs : List ℤ) (j : ℕ) (any' sound : Bool) → j < length (take lanes xs) → SFits w16 (entry (take lanes xs) j) →
+-- one more entry is tried
+pub tried_more : (xs : List ℤ) (j : ℕ) (sound any' : Bool) → SFits w16 (entry xs j) → sound ≡ is_sample (passed (entry xs j)) →
+    any' ≡ any j (λ j. not (is_sample (entry xs j))) → (not sound || any') ≡ any (j + 1) (λ j. not (is_sample (entry xs j)))
+unfolding any
+tried_more xs j sound any' f e q = rw (e, q, read (entry xs j) f, add-one j)
+
+pub tried-all : (xs : List ℤ) (j : ℕ) (any' : Bool) → j ≤ lanes → lanes ≤ j → any' ≡ any j (λ j. not (is_sample (entry xs j))) →
+    any' ≡ unsound xs
+unfolding unsound
+tried-all xs j any' a b q = q ∙ ap (λ (n : ℕ). any n (λ j. not (is_sample (entry xs j)))) (omega arith)
+
+-- the same of the first 64, as a loop over them has them
+pub front-tried : (xs : List ℤ) (j : ℕ) (any' sound : Bool) → j < length (take lanes xs) → SFits w16 (entry (take lanes xs) j) →
     sound ≡ is_sample (passed (entry (take lanes xs) j)) → any' ≡ any j (λ j. not (is_sample (entry xs j))) →
     (any' || not sound) ≡ any (j + 1) (λ j. not (is_sample (entry xs j)))
-tried_more xs j any' sound h f e q =
+front-tried xs j any' sound h f e q =
     let at : entry (take lanes xs) j ≡ entry xs j = get_or-take lanes xs j (pos 0) (omega (arith, length-take lanes xs)) in
     rw (e, q, read (entry (take lanes xs) j) f, at) (sym (any_next j (λ j. not (is_sample (entry xs j)))))
 
-pub tried-all : (xs : List ℤ) (j : ℕ) (any' : Bool) → lanes ≤ length xs → j ≤ length (take lanes xs) → length (take lanes xs) ≤ j →
+pub front-all : (xs : List ℤ) (j : ℕ) (any' : Bool) → lanes ≤ length xs → j ≤ length (take lanes xs) → length (take lanes xs) ≤ j →
     any' ≡ any j (λ j. not (is_sample (entry xs j))) → any' ≡ unsound xs
-unfolding unsound
-tried-all xs j any' l a b q =
-    let all : j ≡ lanes = omega (arith, length-take-le lanes xs l) in
-    q ∙ ap (λ (n : ℕ). any n (λ j. not (is_sample (entry xs j)))) all
+front-all xs j any' l a b q =
+    tried-all xs j any' (omega (arith, length-take-le lanes xs l)) (omega (arith, length-take-le lanes xs l)) q

@@ -15,6 +15,7 @@ ghost use Rattle.corkhollow.specs.Calls.{returned, told, usage_of};
 use crate::telling::tell;
 use files::Sizes;
 use lanes::MISS;
+use walk::Walked;
 use weights::Usage;
 
 // Reads a matrix file: its entries into `entries`, and its sizes.
@@ -98,11 +99,19 @@ pub extern "C" fn corkhollow_walk(
         (used.new ≡ told (λ w. w.used) o used.old) }
 {
     match walk::walk(file, string) {
-        Ok(walk) => {
-            *row = walk.row.unwrap_or(MISS as usize);
-            *used = walk.used;
-            0
-        }
+        Ok(Walked { row: hit, used: n }) => match hit {
+            Some(v) => {
+                *row = v;
+                *used = n;
+                0
+            }
+            None => {
+                let all = n; // a miss has used all columns
+                *row = MISS as usize;
+                *used = all;
+                0
+            }
+        },
         Err(why) => u32::from(why),
     }
 }

@@ -1,15 +1,16 @@
 -- Import: the ways through its checks, and what is imported, an accepted matrix whose rows are the differences. Assumes nothing.
-use Rattle.std.specs.Prelude.{ℕ, ◌+◌, ◌≤◌, ◌<◌, ◌≡◌, true, false, List, ◌↔◌, ltb, length}
-use Rattle.std.proofs.Math.Path.{sym}
+use Rattle.std.specs.Prelude.{ℕ, ◌+◌, ◌-◌, ◌/◌, ◌%◌, ◌^◌, ◌≤◌, ◌<◌, ◌≡◌, true, false, List, ◌↔◌, ltb, length}
+use Rattle.std.proofs.Math.Path.{sym, ap}
+use Rattle.std.specs.Int.Bits.{bit_and}
 use Rattle.std.proofs.Common.{◌∙◌, arith}
 use borrow.Author.Tests.{le-ltb, ltb-false}
 use Rattle.laws.specs.Sums.{sum-eq}
-use Rattle.laws.specs.Digits.{digit, digit-le}
+use Rattle.laws.specs.Digits.{digit, digit-le, and_one}
 use Rattle.laws.specs.Lists.{blocks}
 use Rattle.laws.specs.Lay.{lay_at}
 use Rattle.laws.specs.Outcome.{refused, gives, mapped, passed, then-gives, gives_inj}
 use Rattle.fields.specs.Limits.{most_columns, inside}
-use Rattle.fields.specs.Fields.{packed}
+use Rattle.fields.specs.Fields.{Taken, packed}
 use Rattle.files.specs.Matrix.{Matrix, Accepted, sizes_outside, bit, p, total, most_rows}
 use Rattle.files.specs.Files.{file_length, matrix_file, matrix_of, write_header_of}
 use Rattle.files.specs.Matrices.{tabled_whole, tabled_bit, tabled_bits, numbered_row}
@@ -17,6 +18,22 @@ use Rattle.files.specs.Writing.{with_header, Head, Wrote, ends_unheaded, ends_he
 use Rattle.files.specs.RoundTrip.{write_read}
 use Rattle.cumulative.specs.Tables.{sizes_unfit, entry, rows_of, last_of, difference, numbers_of, imported, import_of}
 use Rattle.cumulative.specs.Taken.{Cumulative, summed, sized, taken_iff}
+
+-- ---- bits of a number, from bit `left` - 1 down
+pub digit_taken : (left x b left' : ℕ) → left' ≡ left - 1 → b ≡ bit_and (x / 2 ^ left') 1 → Taken (digit left x) b (digit left' x)
+unfolding digit
+digit_taken left x b left' e q =
+    let is : b ≡ x / 2 ^ left' % 2 = q ∙ and_one (x / 2 ^ left') in
+    record {
+      small = omega (arith, is);
+      first =
+          let place : left' ≡ left - 1 - 0 = omega arith in
+          is ∙ ap (λ (k : ℕ). x / 2 ^ k % 2) place;
+      rest =
+          λ i.
+          let place : left' - 1 - i ≡ left - 1 - (i + 1) = omega arith in
+          ap (λ (k : ℕ). x / 2 ^ k % 2) place;
+    }
 
 -- ---- what is imported
 module _ (T : List ℕ) (n : ℕ) where

@@ -10,24 +10,35 @@ ghost use Rattle.cumulative.specs.Tables.{difference, import_of, rows_of};
 ghost use Rattle.cumulative.specs.Taken.{Rising};
 
 use crate::tables::Table;
-use fields::{Refusal, pack_bits, width};
+use fields::{Bits, Refusal, pack_bits, width};
 use files::{Sizes, write_header};
 
-impl Table<'_> {
-    // Bit c of the n of x, the first the highest.
-    fn bit_of(self, x: u64, c: usize) -> u8
-        requires { c < self.columns }
-        ensures { (result ≡ digit self.entry.columns x c) × (result ≤ 1) }
-    {
-        ((x >> (self.columns - 1 - c)) & 1) as u8
-    }
+// The lowest bits of a number that are left, the highest of them first.
+#[derive(Drop)]
+struct Digits {
+    x: u64,
+    left: usize,
+    ghost few: { left ≤ 63 },
+}
 
+impl Bits for Digits {
+    ghost bits = { λ digits i. digit digits.left digits.x i };
+
+    fn next_bit(&mut self) -> u8 {
+        self.left = self.left.saturating_sub(1);
+        ((self.x >> self.left) & 1) as u8
+    }
+}
+
+impl Table<'_> {
     // Packs the n bits of x into the bytes that they take.
     fn pack(self, x: u64, bytes: &mut [u8])
         requires { length bytes.old ≡ width self.columns }
         ensures { let n = self.entry.columns in bytes.new ≡ packed n (digit n x) }
     {
-        pack_bits(self.columns, bytes, |c| self.bit_of(x, c));
+        let left = self.columns;
+        let mut digits = Digits { x, left };
+        pack_bits(left, bytes, &mut digits);
     }
 
     // Lays a row for each difference of neighbours behind the header of `file`.

@@ -67,7 +67,9 @@ impl<'a> Table<'a> {
         ensures { result ≡ fills self.entry.numbers.now self.entry.columns }
     {
         let full = self.power();
-        self.numbers.windows(2).any(|w| w[1].abs_diff(w[0]) == full)
+        self.numbers
+            .windows(2)
+            .any(|w| w[1].wrapping_sub(w[0]) == full)
     }
 
     // Tries the numbers: refusal 15, then 16.

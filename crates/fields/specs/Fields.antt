@@ -1,6 +1,6 @@
 -- 01, "Files": 16-bit fields, lowest byte first, and bits packed into bytes, the first in the highest bit. Assumes nothing.
 use Prim.Native.Nat.{ℕ, suc, ◌+◌, ◌-◌, ◌*◌, ◌/◌, ◌%◌, ◌^◌, ◌≤◌, ◌<◌}
-use Rattle.std.specs.Prelude.{◌≡◌, Bool, false, not, cond, List, [], ◌∷◌, eqb, ltb, length, get_or, take, set}
+use Rattle.std.specs.Prelude.{◌≡◌, Bool, false, not, cond, List, [], ◌∷◌, eqb, ltb, length, get_or, take, set, min}
 use Rattle.std.proofs.Common.{ap, sym, ◌∙◌, subst, ⊎_elim, lt-ltb, le-ltb, eq-eqb, eqb-true, length-set, pow_pos, pow_mono, add-one}
 use Rattle.std.proofs.Common.{shl_exact, get_or-take}
 use Rattle.std.proofs.Math.Nat.{zero-div, one-mul, pow-succ'}
@@ -46,13 +46,22 @@ padded n f i = cond (ltb i n) (f i) 0
 unfoldable pub packed : ℕ → (ℕ → ℕ) → List ℕ
 packed n f = upto (width n) (λ q. number (padded n f) (8 * q) 8)
 
--- what is asked of a closure that gives n bits, and that it gives f 0, .., f (n - 1)
-pub record GivesBits (pre : ℕ → Type 0) (post : ℕ → ℕ → Type 0) (n : ℕ) : Type 0 where
-  pub callable : (i : ℕ) → i < n → pre i
-  pub small : (i r : ℕ) → i < n → post i r → r ≤ 1
+-- a source of bits, b taken from it: it was the first, and the others follow
+pub record Taken (source : ℕ → ℕ) (b : ℕ) (after : ℕ → ℕ) : Type 0 where
+  pub small : b ≤ 1
+  pub first : b ≡ source 0
+  pub rest : (i : ℕ) → after i ≡ source (i + 1)
 
-abbrev pub Gives : (ℕ → ℕ → Type 0) → ℕ → (ℕ → ℕ) → Type 0
-Gives post n f = (i r : ℕ) → i < n → post i r → r ≡ f i
+-- the same of bit t of `left`; from there on b is 0, and none is taken
+pub record Padded (left : ℕ) (source : ℕ → ℕ) (t b : ℕ) (after : ℕ → ℕ) : Type 0 where
+  pub small : b ≤ 1
+  pub below : t < left → (b ≡ source 0) × ((i : ℕ) → after i ≡ source (i + 1))
+  pub beyond : left ≤ t → (b ≡ 0) × ((i : ℕ) → after i ≡ source i)
+
+-- the same of a byte of 8 bits
+pub record PackedByte (left : ℕ) (source : ℕ → ℕ) (byte : ℕ) (after : ℕ → ℕ) : Type 0 where
+  pub is : byte ≡ number (padded left source) 0 8
+  pub rest : (i : ℕ) → after i ≡ source (min 8 left + i)
 
 -- whether a spare bit is set behind the n packed bits that begin at byte `at`: a bit from n on in the last of their bytes
 unfoldable pub spare : List ℕ → ℕ → ℕ → Bool
@@ -165,16 +174,79 @@ pub length-packed : (n : ℕ) (f : ℕ → ℕ) → length (packed n f) ≡ widt
 unfolding packed
 length-packed n f = length-upto (width n) (λ q. number (padded n f) (8 * q) 8)
 
--- ---- bits that a closure gives, packed byte by byte: a byte has room for one bit more, and its number goes on with it
-module _ (t byte b : ℕ) where
-  pub bit-room : t < 8 → byte < 2 ^ t → b ≤ 1 → 2 * byte + b < 2 ^ 8
-  bit-room h l k = omega (arith, pow_mono {i = suc t} {j = 8} h, pow-succ' 2 t)
+-- ---- bits of a source, packed byte by byte
+-- bit t is taken, or there are no more
+module _ (left : ℕ) (f source : ℕ → ℕ) (t b : ℕ) (after : ℕ → ℕ) (p : Padded left source t b after)
+    (at : (i : ℕ) → source i ≡ f (min t left + i)) where
+  pub bit-next : b ≡ padded left f (0 + t)
+  bit-next =
+      let same : t ≡ 0 + t = omega arith in
+      rw (← same)
+      (⊎_elim
+      (λ (h : t < left).
+      let place : min t left + 0 ≡ t = omega arith in
+      (p.below h).0 ∙ (at 0 ∙ ap f place) ∙ padded-below left f t h)
+      (λ (h : left ≤ t). (p.beyond h).0 ∙ padded-above left f t h)
+      (lt-or_ge t left))
 
-  pub bit-small : byte < 2 ^ t → b ≤ 1 → 2 * byte + b < 2 ^ (t + 1)
-  bit-small l k = rw (add-one t, pow-succ' 2 t) (omega arith)
+  pub bits_on : (i : ℕ) → after i ≡ f (min (t + 1) left + i)
+  bits_on i =
+      ⊎_elim
+      (λ (h : t < left).
+      let place : min t left + (i + 1) ≡ min (t + 1) left + i = omega arith in
+      (p.below h).1 i ∙ (at (i + 1) ∙ ap f place))
+      (λ (h : left ≤ t).
+      let place : min t left + i ≡ min (t + 1) left + i = omega arith in
+      (p.beyond h).1 i ∙ (at i ∙ ap f place))
+      (lt-or_ge t left)
 
-  pub bit-next : (f : ℕ → ℕ) (c : ℕ) → b ≡ f (c + t) → byte ≡ number f c t → 2 * byte + b ≡ number f c (t + 1)
-  bit-next f c e l = rw (e, l) (sym (number_more f c t))
+-- or one of 8 is taken
+module _ (f source : ℕ → ℕ) (t b : ℕ) (after : ℕ → ℕ) (p : Taken source b after) (at : (i : ℕ) → source i ≡ f (t + i)) where
+  pub taken-next : b ≡ f (0 + t)
+  taken-next =
+      let place : t + 0 ≡ 0 + t = omega arith in
+      p.first ∙ (at 0 ∙ ap f place)
+
+  pub taken_on : (i : ℕ) → after i ≡ f (t + 1 + i)
+  taken_on i =
+      let place : t + (i + 1) ≡ t + 1 + i = omega arith in
+      p.rest i ∙ (at (i + 1) ∙ ap f place)
+
+-- 8 taken are a byte, of 8 bits or more
+pub byte_taken : (f source : ℕ → ℕ) (byte left : ℕ) → byte ≡ number f 0 8 → ((i : ℕ) → source i ≡ f (8 + i)) → 8 ≤ left →
+    PackedByte left f byte source
+byte_taken f source byte left e at h =
+    record {
+      is = e ∙ number_shift f (padded left f) 0 0 8 (λ i l. padded-below left f (0 + i) (omega arith));
+      rest =
+          λ i.
+          let place : 8 + i ≡ min 8 left + i = omega arith in
+          at i ∙ ap f place;
+    }
+
+-- byte q is packed of what is left of n bits
+module _ (n : ℕ) (f source : ℕ → ℕ) (q left byte : ℕ) (after : ℕ → ℕ) (p : PackedByte left source byte after)
+    (few : left ≡ n - 8 * q) (at : (i : ℕ) → source i ≡ f (min (8 * q) n + i)) where
+  same : (i : ℕ) → padded left source (0 + i) ≡ padded n f (8 * q + i)
+  same i =
+      padded-both (λ (x : ℕ). x ≡ padded n f (8 * q + i)) left source (0 + i)
+      (λ h.
+      let place : min (8 * q) n + (0 + i) ≡ 8 * q + i = omega arith in
+      at (0 + i) ∙ ap f place ∙ padded-below n f (8 * q + i) (omega arith))
+      (λ h. padded-above n f (8 * q + i) (omega arith))
+
+  pub byte-next : byte ≡ number (padded n f) (8 * q) 8
+  byte-next = p.is ∙ number_shift (padded left source) (padded n f) 0 (8 * q) 8 (λ i l. same i)
+
+  pub bytes_on : (i : ℕ) → after i ≡ f (min (8 * (q + 1)) n + i)
+  bytes_on i =
+      let place : min (8 * q) n + (min 8 left + i) ≡ min (8 * (q + 1)) n + i = omega arith in
+      p.rest i ∙ (at (min 8 left + i) ∙ ap f place)
+
+-- as many bytes as n bits take hold them packed
+pub packed_whole : (n w : ℕ) (f : ℕ → ℕ) → w ≡ width n → upto w (λ q. number (padded n f) (8 * q) 8) ≡ packed n f
+unfolding packed
+packed_whole n w f e = ap (λ (k : ℕ). upto k (λ q. number (padded n f) (8 * q) 8)) e
 
 -- ---- packed rows, bit by bit
 -- bit i of packed row v: the row's bit below n, and 0 in the spare bits

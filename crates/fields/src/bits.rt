@@ -1,7 +1,8 @@
 // Bits packed into bytes, the first in the highest bit (01, "Files").
 ghost use Rattle.std.specs.Prelude.{◌≡◌, ℕ, ◌+◌, ◌*◌, ◌≤◌, ◌<◌, length};
 ghost use Rattle.laws.specs.Digits.{number};
-ghost use Rattle.fields.specs.Fields.{GivesBits, Gives, bit_of, packed, padded, spare, width};
+ghost use Rattle.laws.specs.Lists.{upto};
+ghost use Rattle.fields.specs.Fields.{PackedByte, Padded, Taken, bit_of, padded, spare, width};
 
 // The bytes that n bits take, whatever n is: no sum here can wrap.
 pub fn width(n: usize) -> usize
@@ -33,32 +34,62 @@ pub(crate) fn spare_set(bytes: &[u8], n: usize, at: usize) -> bool
     last % (1usize << (8 * w - n)) != 0
 }
 
-// Bit i of the n that `bit` gives; 0 from n on.
-fn padded_bit<F: Fn(usize) -> u8>(n: usize, i: usize, bit: &F) -> u8
-    requires { GivesBits (F.pre bit.now) (F.post bit.now) n }
-    ensures { (result ≤ 1) × ((f : ℕ → ℕ) → Gives (F.post bit.now) n f → result ≡ padded n f i) }
-{
-    if i < n { bit(i) } else { 0 }
+// Bits, one after another.
+pub trait Bits {
+    ghost bits: { Self → ℕ → ℕ };
+
+    // Takes the next bit.
+    fn next_bit(&mut self) -> u8
+        ensures { Taken (bits self.old) result (bits self.new) };
 }
 
-// Byte q of the n bits that `bit` gives, packed.
-fn packed_byte<F: Fn(usize) -> u8>(n: usize, q: usize, bit: &F) -> u8
-    requires { (q < 65536) × GivesBits (F.pre bit.now) (F.post bit.now) n }
-    ensures { (f : ℕ → ℕ) → Gives (F.post bit.now) n f → result ≡ number (padded n f) (8 * q) 8 }
+// The next bit, while there are any left; otherwise 0.
+fn padded_bit<B: Bits>(t: usize, left: usize, source: &mut B) -> u8
+    ensures { Padded left (B.bits source.old) t result (B.bits source.new) }
+{
+    if t < left { source.next_bit() } else { 0 }
+}
+
+// The next 8 bits, packed.
+fn full_byte<B: Bits>(source: &mut B) -> u8
+    ensures { (left : ℕ) → 8 ≤ left → PackedByte left (B.bits source.old) result (B.bits source.new) }
 {
     let mut byte: u8 = 0;
-    for t in 0..8 {
-        byte = 2 * byte + padded_bit(n, 8 * q + t, bit);
+    for t in 0..8usize {
+        byte = 2 * byte + source.next_bit();
     }
     byte
 }
 
-// Packs the n bits that `bit` gives into the bytes that they take.
-pub fn pack_bits<F: Fn(usize) -> u8>(n: usize, bytes: &mut [u8], bit: F)
-    requires { (n ≤ 65535) × (length bytes.old ≡ width n) × GivesBits (F.pre bit) (F.post bit) n }
-    ensures { (f : ℕ → ℕ) → Gives (F.post bit) n f → bytes.new ≡ packed n f }
+// The next 8 bits, packed, of which `left` are left: 0 from there on.
+fn padded_byte<B: Bits>(left: usize, source: &mut B) -> u8
+    ensures { PackedByte left (B.bits source.old) result (B.bits source.new) }
 {
-    for (q, byte) in bytes.iter_mut().enumerate() {
-        *byte = packed_byte(n, q, &bit);
+    let mut byte: u8 = 0;
+    for t in 0..8 {
+        byte = 2 * byte + padded_bit(t, left, source);
+    }
+    byte
+}
+
+// The same, with no bit tried where all 8 are left.
+fn packed_byte<B: Bits>(left: usize, source: &mut B) -> u8
+    ensures { PackedByte left (B.bits source.old) result (B.bits source.new) }
+{
+    if 8 <= left {
+        full_byte(source)
+    } else {
+        padded_byte(left, source)
+    }
+}
+
+// Packs n bits into the bytes that they take: as many as there are, and bytes behind them are 0.
+pub fn pack_bits<B: Bits>(n: usize, bytes: &mut [u8], source: &mut B)
+    ensures { bytes.new ≡ upto (length bytes.old) (λ q. number (padded n (B.bits source.old)) (8 * q) 8) }
+{
+    let mut left = n;
+    for byte in bytes.iter_mut() {
+        *byte = packed_byte(left, source);
+        left = left.saturating_sub(8);
     }
 }

@@ -10,7 +10,7 @@ mod packing;
 mod records;
 mod refusals;
 
-pub use bits::{bit, pack_bits, width};
+pub use bits::{Bits, bit, pack_bits, width};
 pub use limits::{COLUMNS, lesser, outside};
 pub use packing::check_strings;
 pub use records::{field, put_field};

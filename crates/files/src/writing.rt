@@ -11,7 +11,7 @@ ghost use Rattle.files.specs.Files.{above_one, write_of};
 
 use crate::headers::{Sizes, write_header};
 use crate::live::Rows;
-use fields::{Refusal, pack_bits, width};
+use fields::{Bits, Refusal, pack_bits, width};
 
 // Whether any of the first n entries is neither 0 nor 1.
 fn any_above_one(entries: &[u8], n: usize) -> bool
@@ -21,13 +21,36 @@ fn any_above_one(entries: &[u8], n: usize) -> bool
     entries[..n].iter().any(|entry| 1 < *entry)
 }
 
+// The entries of a row from place `at` on, each a bit.
+#[derive(Drop)]
+struct Entries<'a> {
+    row: &'a [u8],
+    at: usize,
+    ghost few: { (i : ℕ) → get_or row.now i 0 ≤ 1 },
+}
+
+impl Bits for Entries<'_> {
+    ghost bits = { λ entries i. get_or entries.row.now (entries.at + i) 0 };
+
+    fn next_bit(&mut self) -> u8 {
+        if self.at < self.row.len() {
+            let entry = self.row[self.at];
+            self.at += 1;
+            entry
+        } else {
+            0
+        }
+    }
+}
+
 // Packs the entries of a row into the bytes that they take.
 fn pack_row(row: &[u8], bytes: &mut [u8])
     requires { (length row.now ≤ 65535) × (length bytes.old ≡ width (length row.now)) ×
         ((i : ℕ) → i < length row.now → get_or row.now i 0 ≤ 1) }
     ensures { bytes.new ≡ packed (length row.now) (λ i. get_or row.now i 0) }
 {
-    pack_bits(row.len(), bytes, |c| row[c]);
+    let mut entries = Entries { row, at: 0 };
+    pack_bits(row.len(), bytes, &mut entries);
 }
 
 // Lays the rows of a matrix of these sizes, packed, behind the header of `file`.

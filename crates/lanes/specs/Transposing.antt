@@ -250,8 +250,15 @@ pub record Idle (d n : ℕ) (rows : List ℕ) : Type 0 where
   pub low : (r : ℕ) → n ≤ r → r < d → get_or rows r 0 ≡ 0
   pub high : (r : ℕ) → n ≤ r → r < d → get_or rows (r + d) 0 ≡ 0
 
-pub idle_front : (d n m : ℕ) (rows : List ℕ) → m ≡ min n d → Front n rows → Idle d m rows
-idle_front d n m rows e f =
+pub idle_none : (d : ℕ) (rows : List ℕ) → Idle d d rows
+idle_none d rows = record { low = λ r a b. absurd (omega arith); high = λ r a b. absurd (omega arith) }
+
+pub idle_front : (d n : ℕ) (rows : List ℕ) → Front n rows → Idle d n rows
+idle_front d n rows f = record { low = λ r a b. f.clear r a; high = λ r a b. f.clear (r + d) (omega arith) }
+
+-- from the smaller of n and d on
+pub idle_fewer : (d n m : ℕ) (rows : List ℕ) → m ≡ min n d → Front n rows → Idle d m rows
+idle_fewer d n m rows e f =
     record { low = λ r a b. f.clear r (omega arith); high = λ r a b. f.clear (r + d) (omega arith) }
 
 -- a table has no rows beyond its last
@@ -380,7 +387,7 @@ first_exchanged {m} n old now round h t f p =
 pub first_front : {m : ℕ} (set n : ℕ) (old now : List ℕ) → Round 32 m → n ≡ min set 32 → Table old → Front set old →
     Crossed 32 m 0 (0 + n) old now → Exchanged 32 side old now
 first_front {m} set n old now round e t f p =
-    first_exchanged n old now round (omega arith) t (idle_front 32 set n old e f) p
+    first_exchanged n old now round (omega arith) t (idle_fewer 32 set n old e f) p
 
 -- ---- six rounds
 -- one round after another, the last first

@@ -1,13 +1,18 @@
 -- The pass over the signers, turn by turn, and the one that clears what they have drawn (specs/Scan.antt). Assumes nothing.
-use Rattle.std.specs.Prelude.{ℕ, ◌+◌, ◌^◌, ◌<◌, ◌≤◌, ◌≡◌, refl, false, List, length, set}
+use Rattle.std.specs.Prelude.{ℕ, ◌+◌, ◌-◌, ◌*◌, ◌^◌, ◌<◌, ◌≤◌, ◌≡◌, refl, Bool, true, false, List, length, set}
 use Rattle.std.proofs.Common.{sym, ◌∙◌, ap, subst, ⊎_elim, eq-or-lt_of_le, lt_irrefl, not-suc-le-zero, arith}
 use Rattle.std.proofs.Common.{length-set, get_or-set_same, get_or-set_other, ext_get_or}
 use Rattle.laws.specs.Sums.{any, sum_to, any_next, sum_more}
-use Rattle.pool.specs.Pool.{no_signer, signer_at, claim, reserve_above, drawn_above, clear, cleared}
+use Rattle.pool.specs.Pool.{most_signers, no_signer, signer_at, lack_unless, claim, reserve_above, drawn_above, clear, cleared}
 use Rattle.pool.specs.Amounts.{cleared_at, length-cleared}
-use Rattle.pool.specs.Scan.{Small, added, sums_first}
+use Rattle.pool.specs.Scan.{Small, added, sums_first, sums_of}
 use Rattle.pool.specs.declared.signers.Signer.{Signer}
 use Rattle.pool.specs.declared.signers.Sums.{Sums}
+
+-- what a signer lacks is at most its reserve
+pub lack-le : (t : Bool) (s : Signer) → lack_unless t s ≤ s.reserve
+lack-le true s = omega arith
+lack-le false s = omega arith
 
 -- ---- the first i signers are added up, in a
 pub record Going (xs : List Signer) (i : ℕ) (a : Sums) : Type 0 where
@@ -41,6 +46,11 @@ going_turn xs i a r gr gd g p = record {
   small = rw p (omega (arith, g.small.0), omega (arith, g.small.1), omega (arith, g.small.2));
 }
 
+pub going_done : (xs : List Signer) (i : ℕ) (a : Sums) → length xs ≤ most_signers → i ≡ length xs → Going xs i a
+    → (a ≡ sums_of xs) × Small most_signers a
+going_done xs i a few p g =
+    (g.are ∙ ap (λ (k : ℕ). sums_first k xs) p, (omega (arith, g.small.0), omega (arith, g.small.1), omega (arith, g.small.2)))
+
 -- ---- the signers before place i are cleared, in zs, and the others are as they were
 abbrev pub Clearing : List Signer → ℕ → List Signer → Type 0
 Clearing xs i zs =
@@ -68,3 +78,13 @@ pub clearing_done : (xs : List Signer) (i : ℕ) (zs : List Signer) → i ≡ le
 clearing_done xs i zs p (h, n, before, after) =
     ext_get_or no_signer zs (cleared xs) (n ∙ sym (length-cleared xs))
     (λ j m. before j (omega arith) ∙ sym (cleared_at xs j))
+
+-- ---- places in a list of n records of 12 bytes
+pub place_fits : (i n : ℕ) → i < n → n * 12 < 2 ^ 63 → i * 12 < 2 ^ 64
+place_fits i n l h = omega arith
+
+pub next_fits : (i n : ℕ) → i < n → n < 2 ^ 64 → i + 1 < 2 ^ 64
+next_fits i n l h = omega arith
+
+pub nearer : (i n : ℕ) → i < n → n - (i + 1) < n - i
+nearer i n l = omega arith

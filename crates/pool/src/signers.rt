@@ -62,7 +62,7 @@ impl Sums {
 // Goes through the list of a pool and adds the signers up.
 pub(crate) fn scan(signers: &[Signer]) -> Sums
     requires { length signers.now ≤ most_signers }
-    ensures { result ≡ sums_of signers.now }
+    ensures { (result ≡ sums_of signers.now) × Small most_signers result }
 {
     let mut sums = Sums::default();
     for s in signers {

@@ -1,9 +1,9 @@
 // The cases of draws.
 use crate::samples::{SAMPLES, print_samples};
+use case_lines::BYTES;
 use case_lines::answers::{print_answer, refuse};
 use case_lines::cases::Case;
 use case_lines::lent::Lent;
-use case_lines::{BYTES, PROGRAM};
 use drawing::{draw, draw_signed};
 use lanes::LANES;
 use std::alloc::Global;
@@ -55,15 +55,14 @@ fn draws<W: Write>(
 }
 
 // FILE STRINGS sign
-pub(crate) fn draws_case<W: Write>(out: &mut W, case: Case) -> io::Result<()> {
+pub(crate) fn draws_case<W: Write>(out: &mut W, case: Case, program: &mut [u8]) -> io::Result<()> {
     let file: Vec<u8> = case.list(1, BYTES)?;
     let strings: Vec<u8> = case.list(2, BYTES)?;
-    let mut program = vec![in case.alloc(); 0u8; PROGRAM]?;
-    match compiler::compile(&file, &mut program) {
+    match compiler::compile(&file, program) {
         Err(why) => refuse(out, why),
         Ok(n) => {
-            program.truncate(n);
-            draws(out, case.alloc(), &program, &strings, case.number(3))
+            let made = &program[..program.len().min(n)];
+            draws(out, case.alloc(), made, &strings, case.number(3))
         }
     }
 }

@@ -1,8 +1,9 @@
 // The cases of matrix files.
-use case_lines::answers::{print_answer, print_written};
+use case_lines::BYTES;
+use case_lines::answers::{print_answer, print_list, print_written};
 use case_lines::cases::Case;
+use case_lines::elements::Element;
 use case_lines::lent::Lent;
-use case_lines::{BYTES, PROGRAM};
 use files::Sizes;
 use std::io;
 use std::io::Write;
@@ -92,11 +93,25 @@ pub(crate) fn rewrite_case<W: Write>(out: &mut W, case: Case) -> io::Result<()> 
     print_written(out, answer, &again)
 }
 
-// FILE program-lent
-pub(crate) fn compile_case<W: Write>(out: &mut W, case: Case) -> io::Result<()> {
+// FILE program-lent; the program's room is too large for a second one to compare it with, so it is seen byte by byte
+pub(crate) fn compile_case<W: Write>(
+    out: &mut W,
+    case: Case,
+    program: &mut [u8],
+) -> io::Result<()> {
     let file: Vec<u8> = case.list(1, BYTES)?;
-    let lent = PROGRAM.min(case.size(2));
-    let mut program: Lent<u8> = Lent::filled(case.alloc(), lent, PROGRAM.min(lent + 64))?;
-    let answer = compiler::compile(&file, program.lend());
-    print_written(out, answer, &program)
+    let lent = program.len().min(case.size(2));
+    let room = program.len().min(lent.saturating_add(64));
+    let program = &mut program[..room];
+    program.fill(u8::FILL);
+    let answer = compiler::compile(&file, &mut program[..lent]);
+    print_answer(out, answer.map(|n| [n]))?;
+    let laid = answer.unwrap_or(0).min(room);
+    if answer.is_ok() {
+        print_list(out, &program[..laid])?;
+    }
+    if program[laid..].iter().any(|x| *x != u8::FILL) {
+        write!(out, " touched")?;
+    }
+    Ok(())
 }

@@ -1,8 +1,8 @@
 // Runs of a program in parts, each as the one before left it.
+use case_lines::BYTES;
 use case_lines::answers::{print_answer, print_hash, print_list, refuse};
 use case_lines::cases::Case;
 use case_lines::hashes::{EMPTY, with, with_all};
-use case_lines::{BYTES, PROGRAM};
 use fields::Refusal;
 use machine::{Run, State};
 use programs::Program;
@@ -104,16 +104,15 @@ pub(crate) fn print_runs<W: Write>(
 }
 
 // FILE INPUTS BUDGETS
-pub(crate) fn stops_case<W: Write>(out: &mut W, case: Case) -> io::Result<()> {
+pub(crate) fn stops_case<W: Write>(out: &mut W, case: Case, program: &mut [u8]) -> io::Result<()> {
     let file: Vec<u8> = case.list(1, BYTES)?;
     let inputs: Vec<u64> = case.list(2, Program::INPUTS)?;
     let budgets: Vec<u32> = case.list(3, 16)?;
-    let mut program = vec![in case.alloc(); 0u8; PROGRAM]?;
-    match compiler::compile(&file, &mut program) {
+    match compiler::compile(&file, program) {
         Err(why) => refuse(out, why),
         Ok(n) => {
-            program.truncate(n);
-            print_runs(out, &program, &inputs, &budgets)
+            let made = &program[..program.len().min(n)];
+            print_runs(out, made, &inputs, &budgets)
         }
     }
 }

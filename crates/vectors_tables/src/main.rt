@@ -5,20 +5,24 @@
 mod tables;
 
 use case_lines::cases::Case;
-use case_lines::lines::run_cases;
+use case_lines::lines::{Cases, Out, run_cases};
 use std::io;
-use std::io::Write;
+
+#[derive(Drop)]
+struct Answers;
 
 // The numbers of the cases stand in this place alone, so an enum of them would be a second list; what the programs share is `run_cases`.
-fn run_case<W: Write>(out: &mut W, case: Case) -> io::Result<()> {
-    match case.size(0) {
-        0x15 => tables::import_case(out, case),
-        0x16 => tables::export_case(out, case),
-        0x17 => tables::lookup_case(out, case),
-        _ => Ok(()),
+impl Cases for Answers {
+    fn run(&mut self, out: &mut Out<'_>, case: Case) -> io::Result<()> {
+        match case.size(0) {
+            0x15 => tables::import_case(out, case),
+            0x16 => tables::export_case(out, case),
+            0x17 => tables::lookup_case(out, case),
+            _ => Ok(()),
+        }
     }
 }
 
 fn main(rt: HostRuntime) -> io::Result<()> {
-    run_cases(&rt, |out, case| run_case(out, case))
+    run_cases(&rt, Answers)
 }

@@ -11,10 +11,12 @@
 // A failed read or write ends the program with that error.
 #![tactic(auto)]
 
+ghost use Rattle.std.specs.Prelude.{◌≡◌, ◌≤◌, OnErr, length};
+
 mod rows;
 
 use case_lines::cases::{elements, number};
-use case_lines::lines::run_lines;
+use case_lines::lines::{Lines, Out, run_lines};
 use fields::Refusal;
 use rows::{WIDTH, highest, print_total};
 use std::alloc::Global;
@@ -61,13 +63,16 @@ fn print_note<W: Write>(out: &mut W, text: &[u8]) -> io::Result<()> {
     writeln!(out)
 }
 
-// Carries out one line, whose kind is its first byte.
+// Carries out one line, whose kind is its first byte. A matrix file takes the place of the one before; after an error that one stays.
 fn carry_out<W: Write>(
     out: &mut W,
     alloc: Global,
     line: &[u8],
     file: &mut Vec<u8>,
-) -> io::Result<()> {
+) -> io::Result<()>
+    ensures room { length file.old.items ≤ 3080 → length file.new.items ≤ 3080 }
+    ensures before { OnErr result (file.new.items ≡ file.old.items) }
+{
     let text = line.get(2..).unwrap_or(&[]);
     match line.first() {
         Some(b'#') => print_note(out, text),
@@ -86,7 +91,23 @@ fn carry_out<W: Write>(
     }
 }
 
+// The matrix file that lines are about.
+#[derive(Drop)]
+struct Walks {
+    alloc: Global,
+    file: Vec<u8>,
+    ghost room: { length file.items ≤ 3080 },
+}
+
+impl Lines for Walks {
+    fn run(&mut self, out: &mut Out<'_>, line: &[u8]) -> io::Result<()> {
+        carry_out(out, self.alloc, line, &mut self.file)
+    }
+}
+
 fn main(rt: HostRuntime) -> io::Result<()> {
-    let mut file: Vec<u8> = Vec::new(rt.alloc());
-    run_lines(&rt, |out, line| carry_out(out, rt.alloc(), line, &mut file))
+    let alloc = rt.alloc();
+    let file: Vec<u8> = Vec::new(alloc);
+    let mut walks = Walks { alloc, file };
+    run_lines(&rt, &mut walks)
 }

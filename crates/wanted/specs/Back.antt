@@ -1,6 +1,6 @@
 -- The bits of a string from its last 1 back to its first, and the ones that are counted for it. Assumes nothing.
 use Prim.Native.Nat.{ℕ, suc, ◌+◌, ◌-◌, ◌*◌, ◌/◌, ◌%◌, ◌^◌, ◌≤◌, ◌<◌}
-use Rattle.std.specs.Prelude.{◌≡◌, refl, eqb, filter, length, get_or, set}
+use Rattle.std.specs.Prelude.{◌≡◌, refl, get_or, set, sum_by}
 use Rattle.std.specs.List.{range_with_len}
 use Rattle.std.proofs.Math.Path.{sym, ap}
 use Rattle.std.proofs.Common.{◌∙◌, add-one}
@@ -9,15 +9,13 @@ use Rattle.std.proofs.Math.Logic.{⊎_elim}
 use native.Mathlib.Omega.{arith}
 use Rattle.std.proofs.lemmas.Nat.{shl-shr}
 use Rattle.std.proofs.Math.Pow.{shr-shr}
-use Rattle.std.proofs.lemmas.List.Sums.{length-filter, count_by-le-length}
-use Rattle.std.proofs.lemmas.List.FromFn.{length-range_with_len}
 use Rattle.laws.specs.Tests.{lt-or_ge}
-use Rattle.laws.specs.Sums.{sum_to}
+use Rattle.laws.specs.Sums.{sum_to, sum-le}
 use Rattle.laws.specs.Digits.{digit, digit-le, digit-behind}
 use Rattle.laws.specs.Lay.{lay, lay-again}
 use Rattle.fields.specs.Fields.{packed, packed-eq, length-packed}
 use Rattle.files.specs.Matrix.{ones_in}
-use Rattle.walk.specs.Ranges.{ones_from}
+use Rattle.walk.specs.Ranges.{sum_from}
 use Rattle.walk.specs.Intervals.{total_to, total_more, above, leading, first_number}
 use Rattle.wanted.specs.Adding.{from_on, from_at, from-before, bit-fits, bit_added}
 
@@ -115,20 +113,19 @@ module _ (bit : ℕ → ℕ → ℕ) (m n : ℕ) where
       d.is ∙ rw (all, a.is)
       (lay-again g (packed n (digit n x)) buf (length-packed n (from_on c (digit n x)) ∙ sym (length-packed n (digit n x))))
 
--- ---- the ones of some rows, as the library's iterators count them
-pub counted : (bit : ℕ → ℕ → ℕ) (c from to k : ℕ) → ((v : ℕ) → bit v c ≤ 1) → from ≤ to →
-    k ≡ length (filter (λ v. eqb (bit v c) 1) (range_with_len from (to - from))) →
-    (k + ones_in bit from c ≡ ones_in bit to c) × (k ≤ to)
-unfolding ones_in
-counted bit c from to k few h e =
-    let n : ℕ = to - from in
-    let end : from + n ≡ to = omega arith in (
-      omega (arith, e, ones_from (λ v. bit v c) few from n, ap (λ (i : ℕ). sum_to i (λ v. bit v c)) end),
-      omega (
-        arith,
-        e,
-        length-filter (λ v. eqb (bit v c) 1) (range_with_len from n),
-        count_by-le-length (λ v. eqb (bit v c) 1) (range_with_len from n),
-        length-range_with_len from n,
-      ),
-    )
+-- ---- the ones of some rows, as the library's iterators add them up
+module _ (bit : ℕ → ℕ → ℕ) (c from to : ℕ) (few : (v : ℕ) → bit v c ≤ 1) (h : from ≤ to) where
+  -- with those of the rows before them they are the ones of all rows, and these are at most as many as the rows
+  pub ones-summed : sum_by (λ v. bit v c) (range_with_len from (to - from)) + ones_in bit from c ≡ ones_in bit to c
+  unfolding ones_in
+  ones-summed =
+      let end : from + (to - from) ≡ to = omega arith in
+      sum_from from (to - from) (λ v. bit v c) ∙ ap (λ (i : ℕ). sum_to i (λ v. bit v c)) end
+
+  pub ones-few : sum_by (λ v. bit v c) (range_with_len from (to - from)) ≤ to
+  unfolding ones_in
+  ones-few = omega (arith, ones-summed, sum-le to 1 (λ v. bit v c) (λ v l. few v))
+
+  pub summed : (k : ℕ) → k ≡ sum_by (λ v. bit v c) (range_with_len from (to - from)) →
+      (k + ones_in bit from c ≡ ones_in bit to c) × (k ≤ to)
+  summed k e = rw e (ones-summed, ones-few)

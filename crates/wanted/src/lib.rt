@@ -55,7 +55,7 @@ impl Rows<'_> {
         ensures { let rows = file_rows self.entry.file.now self.entry.columns in
             (result + ones_in rows from c ≡ ones_in rows to c) × (result ≤ to) }
     {
-        (from..to).filter(|v| self.bit(*v, c) == 1).count()
+        (from..to).map(|v| usize::from(self.bit(v, c))).sum()
     }
 
     // Lays the smallest string that hits a row in column c, packed, at the front of `string`. Its bits up to a column spell 2T + e, with T

@@ -1,7 +1,7 @@
 -- Long division gives a row's number: the largest n-bit number not above 2^n × w / s, for every n. Assumes nothing.
 use Prim.Native.Nat.{ℕ, zero, suc, ◌+◌, ◌-◌, ◌*◌, ◌/◌, ◌^◌, ◌≤◌, ◌<◌}
-use Rattle.std.specs.Prelude.{◌≡◌, refl, Bool, true, false, leb, List, length, get_or}
-use Rattle.std.proofs.Common.{sym, ◌∙◌, eq-or-lt_of_le, le_trans, mul-le-mul_left, mul-le-mul_right, div-mul-le_self}
+use Rattle.std.specs.Prelude.{◌≡◌, refl, Bool, true, false, leb}
+use Rattle.std.proofs.Common.{sym, ◌∙◌, add-suc, eq-or-lt_of_le, le_trans, mul-le-mul_left, mul-le-mul_right, div-mul-le_self}
 use Rattle.std.proofs.Common.{le-div_iff_mul-le, add-one, le-leb, leb-true, leb-false, pow_pos}
 use Rattle.std.proofs.Math.Path.{ap}
 use Rattle.std.proofs.Math.Logic.{⊎_elim}
@@ -9,11 +9,10 @@ use native.Mathlib.Omega.{arith}
 use Rattle.std.proofs.Math.Nat.{pow-succ', add-zero, le_of_mul-le-mul_right, min-le_left, min-le_right, le-min}
 use Rattle.std.proofs.lemmas.Bool.{lt-leb}
 use Rattle.std.proofs.Math.Arith.{digits_div}
-use Rattle.laws.specs.Tests.{lt-or_ge}
-use Rattle.laws.specs.Digits.{number, number_more, number_lt, digit}
+use Rattle.laws.specs.Tests.{reached, lt-or_ge}
+use Rattle.laws.specs.Digits.{number, number_more, number_lt, number_shift, digit}
 use Rattle.laws.proofs.Digits.{digit-number}
-use Rattle.laws.specs.Lists.{upto, length-upto, get_d_upto}
-use Rattle.fields.specs.Fields.{packed, packed-eq}
+use Rattle.fields.specs.Fields.{Taken, padded, padded-below, padded-above, padded-both}
 use Rattle.weights.specs.Weights.{share, next_rest, next_bit, rest_after, quotient, Stepped}
 
 -- ---- one step
@@ -94,6 +93,31 @@ module _ (s w : ℕ) where
       let place : 0 + c ≡ c = omega arith in
       rw (← quotient-share n z h) (sym (rw place at (digit-number (quotient s w) 0 n c (λ i a b. quotient_le i) l)))
 
+-- ---- steps that go on from where others stopped
+pub rest_on : (s w c t : ℕ) → rest_after s (rest_after s w c) t ≡ rest_after s w (c + t)
+unfolding rest_after
+rest_on s w c zero = rw (add-zero c)
+rest_on s w c (suc t) = rw (add-suc c t) (ap (next_rest s) (rest_on s w c t))
+
+-- byte q of a row: its eight steps from what the earlier bytes left
+pub byte_on : (s w n q rest : ℕ) → rest ≡ rest_after s w (8 * q) →
+    number (padded (n - 8 * q) (quotient s rest)) 0 8 ≡ number (padded n (quotient s w)) (8 * q) 8
+unfolding quotient
+byte_on s w n q rest e =
+    number_shift (padded (n - 8 * q) (quotient s rest)) (padded n (quotient s w)) 0 (8 * q) 8
+    (λ i l. let z : 0 + i ≡ i = omega arith in
+    rw z
+    (padded-both (λ (x : ℕ). x ≡ padded n (quotient s w) (8 * q + i)) (n - 8 * q) (quotient s rest) i
+    (λ h. on i ∙ padded-below n (quotient s w) (8 * q + i) (omega arith)) (λ h. padded-above n (quotient s w) (8 * q + i) (omega arith))))
+  where
+    on : (i : ℕ) → quotient s rest i ≡ quotient s w (8 * q + i)
+    on i = rw e (ap (next_bit s) (rest_on s w (8 * q) i))
+
+pub rest_byte : (s w q rest : ℕ) → rest ≡ rest_after s w (8 * q) → rest_after s rest 8 ≡ rest_after s w (8 * (q + 1))
+rest_byte s w q rest e =
+    let place : 8 * q + 8 ≡ 8 * (q + 1) = omega arith in
+    rw (e, ← place) (rest_on s w (8 * q) 8)
+
 -- ---- the share is what 01 says
 -- x is the largest n-bit number not above 2^n × w / s
 pub record Largest (n w s x : ℕ) : Type 0 where
@@ -143,20 +167,7 @@ share_double n w s z =
     })
     (share-largest n w s z)
 
--- ---- the bits found, as a row that is packed
-module _ (s w k : ℕ) (row : List ℕ) (is : row ≡ upto k (quotient s w)) where
-  row-bits : (i : ℕ) → i < length row → get_or row i 0 ≡ quotient s w i
-  row-bits i h =
-      ap (λ (l : List ℕ). get_or l i 0) is ∙
-      get_d_upto k (quotient s w) i 0 (omega (arith, ap length is, length-upto k (quotient s w)))
-
-  pub row_le : (i : ℕ) → i < length row → get_or row i 0 ≤ 1
-  row_le i h = rw (row-bits i h) (quotient_le s w i)
-
-  pub row-packed : packed (length row) (λ i. get_or row i 0) ≡ packed (length row) (quotient s w)
-  row-packed = packed-eq (length row) (λ i. get_or row i 0) (quotient s w) row-bits
-
--- ---- the steps, turn by turn
+-- ---- the eight steps of a byte, turn by turn
 pub rest-none : (s w : ℕ) → w ≡ rest_after s w 0
 unfolding rest_after
 rest-none s w = refl
@@ -165,6 +176,33 @@ pub rest-next : (s w t r r' : ℕ) → r ≡ rest_after s w t → r' ≡ next_re
 unfolding rest_after
 rest-next s w t r r' e q = rw (add-one t, q, e)
 
+pub kept_is : (left s w t r b x : ℕ) → r ≡ rest_after s w t → b ≡ next_bit s r → x ≡ padded left (λ i. b) t →
+    x ≡ padded left (quotient s w) (0 + t)
+unfolding quotient
+kept_is left s w t r b x e q k =
+    let place : 0 + t ≡ t = omega arith in
+    let is : b ≡ next_bit s (rest_after s w t) = q ∙ ap (next_bit s) e in
+    rw (place, k)
+    (padded-both (λ (y : ℕ). y ≡ padded left (quotient s w) t) left (λ i. b) t (λ h. is ∙ padded-below left (quotient s w) t h)
+    (λ h. padded-above left (quotient s w) t h))
+
+pub rest-done : (s w t r : ℕ) → t ≤ 8 → 8 ≤ t → r ≡ rest_after s w t → r ≡ rest_after s w 8
+rest-done s w t r = reached (λ k. r ≡ rest_after s w k) t 8
+
 pub quotient_next : (s w t r b : ℕ) → r ≡ rest_after s w t → b ≡ next_bit s r → b ≡ quotient s w t
 unfolding quotient
 quotient_next s w t r b e q = q ∙ ap (next_bit s) e
+
+-- what is left has the quotient's other bits
+pub bit_taken : (s rest b rest' : ℕ) → Stepped s rest b rest' → Taken (quotient s rest) b (quotient s rest')
+unfolding quotient rest_after
+bit_taken s rest b rest' p =
+    record {
+      small = p.small;
+      first = p.bit_is;
+      rest =
+          λ i.
+          let place : 1 + i ≡ i + 1 = omega arith in
+          ap (next_bit s)
+          (ap (λ (r : ℕ). rest_after s r i) p.rest_is ∙ (rest_on s rest 1 i ∙ ap (rest_after s rest) place));
+    }

@@ -2,8 +2,9 @@
 -- nothing.
 use Rattle.std.specs.Prelude.{ℕ, zero, suc, ◌-◌, ◌*◌, ◌/◌, ◌^◌, ◌≤◌, min, ◌≡◌, cond, List, eqb, leb, ltb, length, get_or}
 use Rattle.laws.specs.Sums.{sum_to}
-use Rattle.laws.specs.Digits.{digit}
+use Rattle.laws.specs.Digits.{number, digit}
 use Rattle.laws.specs.Outcome.{Outcome, gives, refuse, ◌>>◌}
+use Rattle.fields.specs.Fields.{padded}
 use Rattle.fields.specs.Limits.{outside, most_columns}
 use Rattle.files.specs.Matrix.{Matrix, tabled, most_rows}
 use Rattle.files.specs.Files.{matrix_file, file_length}
@@ -59,9 +60,14 @@ rest_after s w (suc c) = next_rest s (rest_after s w c)
 unfoldable pub quotient : ℕ → ℕ → ℕ → ℕ
 quotient s w c = next_bit s (rest_after s w c)
 
--- one step
+-- one step, and eight with their bits as a byte
 pub record Stepped (s rest bit rest' : ℕ) : Type 0 where
   pub bit_is : bit ≡ next_bit s rest
   pub rest_is : rest' ≡ next_rest s rest
   pub small : bit ≤ 1
   pub left : rest' ≤ s
+
+pub record Divided (s rest left byte rest' : ℕ) : Type 0 where
+  pub byte_is : byte ≡ number (padded left (quotient s rest)) 0 8
+  pub rest_is : rest' ≡ rest_after s rest 8
+  pub small : rest' ≤ s

@@ -4,7 +4,6 @@ ghost use Rattle.laws.specs.Lists.{blocks};
 ghost use Rattle.laws.specs.Lay.{lay, lay_at};
 ghost use Rattle.laws.specs.Outcome.{laid, mapped};
 ghost use Rattle.fields.specs.Refusal.{answered};
-ghost use Rattle.fields.specs.Limits.{most_columns};
 ghost use Rattle.fields.specs.Fields.{packed, width};
 ghost use Rattle.files.specs.Matrix.{most_rows};
 ghost use Rattle.weights.specs.Weights.{build_of, counted, quotient, sum};
@@ -44,7 +43,7 @@ fn sum_of(usage: Usage, weights: &[u32]) -> u64
 
 // Lays a row for each weight behind the header of `file`.
 fn divide_rows(usage: Usage, weights: &[u32], s: u64, n: usize, file: &mut [u8])
-    requires { (s ≡ sum usage weights.now) × (s < 2 ^ 40) × (n ≤ most_columns) × (8 + length weights.now * width n ≤ length file.old) }
+    requires { (s ≡ sum usage weights.now) × (s < 2 ^ 40) × (8 + length weights.now * width n ≤ length file.old) }
     ensures { let ws = weights.now in
         file.new ≡ lay_at 8 (blocks (length ws) (λ v. packed n (quotient s (counted usage v (get_or ws v 0))))) file.old }
 {

@@ -1,11 +1,9 @@
 // Long division, one bit a step (01, "Matrix and walk": "Weights").
 ghost use Rattle.std.specs.Prelude.{◌≡◌, ◌^◌, ◌≤◌, ◌<◌, length};
-ghost use Rattle.laws.specs.Lists.{upto};
-ghost use Rattle.fields.specs.Limits.{most_columns};
 ghost use Rattle.fields.specs.Fields.{packed, width};
-ghost use Rattle.weights.specs.Weights.{Stepped, quotient};
+ghost use Rattle.weights.specs.Weights.{quotient};
 
-use fields::{COLUMNS, pack_bits};
+use fields::{Bits, pack_bits};
 
 // A division by s, and what the bits found so far have left.
 #[derive(Clone, Copy)]
@@ -15,11 +13,11 @@ struct Division {
     ghost small: { (rest ≤ s) × (s < 2 ^ 40) },
 }
 
-impl Division {
+impl Bits for Division {
+    ghost bits = { λ division i. quotient division.s division.rest i };
+
     // The next bit of the quotient.
-    fn next_bit(&mut self) -> u8
-        ensures { (self.new.s ≡ self.old.s) × Stepped self.old.s self.old.rest result self.new.rest }
-    {
+    fn next_bit(&mut self) -> u8 {
         let twice = 2 * self.rest;
         if self.s <= twice {
             self.rest = twice - self.s;
@@ -31,24 +29,11 @@ impl Division {
     }
 }
 
-// Fills `row` with bits of the quotient of 2^n × w by s, n its length.
-fn divide(w: u64, s: u64, row: &mut [u8])
-    requires { (w ≤ s) × (s < 2 ^ 40) }
-    ensures { row.new ≡ upto (length row.old) (quotient s w) }
-{
-    let mut division = Division { s, rest: w };
-    for bit in row.iter_mut() {
-        *bit = division.next_bit();
-    }
-}
-
 // Packs the n bits of the quotient of 2^n × w by s into the bytes that they take.
 pub(crate) fn divide_row(w: u64, s: u64, n: usize, bytes: &mut [u8])
-    requires { (w ≤ s) × (s < 2 ^ 40) × (n ≤ most_columns) × (length bytes.old ≡ width n) }
+    requires { (w ≤ s) × (s < 2 ^ 40) × (length bytes.old ≡ width n) }
     ensures { bytes.new ≡ packed n (quotient s w) }
 {
-    let mut bits = [0; COLUMNS];
-    let row = &mut bits[..n];
-    divide(w, s, row);
-    pack_bits(row.len(), bytes, |c| row[c]);
+    let mut division = Division { s, rest: w };
+    pack_bits(n, bytes, &mut division);
 }

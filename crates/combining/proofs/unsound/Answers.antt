@@ -2,7 +2,7 @@
 use borrow.Author.Rules.{rules}
 use mathlib.Core.Path.{sym}
 use Rattle.laws.specs.Sums.{any_none}
-use Rattle.combining.specs.Arithmetic.{tried_more, tried-all}
+use Rattle.combining.specs.Arithmetic.{front-tried, front-all}
 use Rattle.combining.proofs.unsound.Goals as goal
 
 pub loop-entry-init : goal.loop-entry-init
@@ -11,10 +11,10 @@ loop-entry-init c = sym (any_none _)
 pub loop-entry-preserved : goal.loop-entry-preserved
 loop-entry-preserved c =
     let at = c.loop-entry in
-    let more = tried_more c.args.x.now at.entry-index at.any c.sound.result c.loop-entry-test.true in
+    let more = front-tried c.args.x.now at.entry-index at.any c.sound.result c.loop-entry-test.true in
     more (search rules) c.sound.ensures at.invariant
 
 pub returns : goal.returns
 returns c =
     let at = c.loop-entry in
-    tried-all _ _ _ c.requires at.auto.entry-index-end c.loop-entry-test.false at.invariant
+    front-all _ _ _ c.requires at.auto.entry-index-end c.loop-entry-test.false at.invariant

@@ -1,16 +1,23 @@
--- `fields::pack_bits` meets its contract: q bytes are laid. Assumes nothing.
+-- `fields::pack_bits` meets its contract: the bytes so far are laid, and the bits that are left follow. Assumes nothing.
 use native.Mathlib.Omega.{arith}
+use mathlib.Core.Path.{refl, ap}
+use Prim.Native.Nat.{◌+◌}
 use Rattle.laws.specs.Lay.{upto-none, laid_store, upto_filled}
-use Rattle.fields.specs.Fields.{packed}
+use Rattle.fields.specs.Fields.{byte-next, bytes_on}
 use Rattle.fields.proofs.bits.pack_bits.Goals as goal
 
-pub loop-q-init : goal.loop-q-init
-loop-q-init g c = λ f h. upto-none _ _ _
+pub loop-byte-init : goal.loop-byte-init
+loop-byte-init g c = (omega arith, λ i. ap (g.B.Bits.bits c.args.source.now) (omega arith), upto-none _ _ _)
 
-pub loop-q-preserved : goal.loop-q-preserved
-loop-q-preserved g c =
-    λ f h. laid_store 0 _ _ _ _ _ _ (omega arith) (omega arith) (c.packed_byte.ensures f h) (c.loop-q.invariant f h)
+pub loop-byte-preserved : goal.loop-byte-preserved
+loop-byte-preserved g c =
+    let at = c.loop-byte.invariant in
+    let p = c.packed_byte.ensures in
+    let f = g.B.Bits.bits c.args.source.now in (
+      omega (arith, at.0),
+      bytes_on _ f _ _ _ _ _ p at.0 at.1,
+      laid_store 0 _ _ _ _ _ _ (omega arith) (omega arith) (byte-next _ f _ _ _ _ _ p at.0 at.1) at.2,
+    )
 
 pub returns : goal.returns
-unfolding packed
-returns g c = λ f h. rw c.requires.1 at (upto_filled _ _ _ _ (omega arith) (omega arith) (c.loop-q.invariant f h))
+returns g c = upto_filled _ _ _ _ (omega arith) (omega arith) c.loop-byte.invariant.2

@@ -1,11 +1,15 @@
--- `fields::pack_bits` meets its contract: q bytes are laid. Assumes nothing.
-use Prim.Native.Nat.{ℕ, ◌*◌}
+-- `fields::pack_bits` meets its contract: the bytes so far are laid, and the bits that are left follow. Assumes nothing.
+use mathlib.Core.Path.{◌≡◌}
+use Prim.Native.Nat.{ℕ, ◌+◌, ◌-◌, ◌*◌}
+use Rattle.std.specs.Prelude.{min}
 use Rattle.laws.specs.Digits.{number}
 use Rattle.laws.specs.Lists.{upto}
 use Rattle.laws.specs.Lay.{Laid}
-use Rattle.fields.specs.Fields.{Gives, padded}
+use Rattle.fields.specs.Fields.{padded}
 use Rattle.fields.proofs.bits.pack_bits.Given as goal
 
-abbrev pub invariant-loop-q : goal.invariant-loop-q
-invariant-loop-q g l =
-    (f : ℕ → ℕ) → Gives (goal.F-post g l.bit) l.n f → Laid 0 (upto l.q (λ q'. number (padded l.n f) (8 * q') 8)) l.initial.bytes l.bytes
+abbrev pub invariant-loop-byte : goal.invariant-loop-byte
+invariant-loop-byte g l =
+    let f = g.B.Bits.bits l.initial.source in
+    (l.left ≡ l.n - 8 * l.byte-index) × ((i : ℕ) → g.B.Bits.bits l.source i ≡ f (min (8 * l.byte-index) l.n + i)) ×
+    Laid 0 (upto l.byte-index (λ q. number (padded l.n f) (8 * q) 8)) l.initial.bytes l.bytes

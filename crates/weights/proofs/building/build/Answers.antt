@@ -30,7 +30,7 @@ pub divide_rows-requires : goal.divide_rows-requires
 divide_rows-requires c =
     let head = head_room _ _ _ c.args.file.now _
     c.in_ok-length.ensures in
-    (c.sum_of-s.ensures.0, c.sum_of-s.ensures.1, head.0.few_columns, head.1)
+    (c.sum_of-s.ensures.0, c.sum_of-s.ensures.1, head.1)
 
 pub returns-in_err-length : goal.returns-in_err-length
 returns-in_err-length c =

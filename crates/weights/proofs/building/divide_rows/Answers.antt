@@ -16,12 +16,11 @@ loop-v-init c = (search rules, blocks-none _ _ _)
 
 -- the room of the row
 room : (c : In-loop-v) → 8 + c.loop-v.v * c.width-bytes.result + width c.args.n ≤ length c.args.file.now
-room c = row_place _ c.loop-v-test.true c.loop-v.invariant.0 c.requires.3
+room c = row_place _ c.loop-v-test.true c.loop-v.invariant.0 c.requires.2
 
 pub divide_row-requires : goal.divide_row-requires
 divide_row-requires c = (
   rw (c.counted_weight.ensures, c.requires.0) (counted-le _ _ 0 _ c.loop-v-test.true),
-  search rules,
   search rules,
   simp (length-take, length-drop) (omega (arith, room (goal.at.divide_row-requires c).In-loop-v, c.loop-v.invariant.0)),
 )
